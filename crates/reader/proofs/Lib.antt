@@ -1,0 +1,4 @@
+pub mod LineSteps
+pub mod LineParts
+pub mod NameLaws
+pub mod Judged
