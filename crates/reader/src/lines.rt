@@ -7,10 +7,10 @@ ghost use Rattle.std.specs.shelf.Text.{sameBytes};
 ghost use Rattle.reader.specs.Lines.{linesOf, position};
 ghost use Rattle.reader.specs.Names.{Finds};
 
-pub const NEWLINE: u8 = 10;
+pub(crate) const NEWLINE: u8 = 10;
 
 // Which line, from 0, is just this word.
-pub fn find_line(text: &[u8], word: &[u8]) -> Option<usize>
+pub(crate) fn find_line(text: &[u8], word: &[u8]) -> Option<usize>
     ensures value { λ r. ⌜ r ≡ position (now (word .entry)) (linesOf (now (text .entry))) ⌝ }
     ensures finds { λ r. ⌜ Finds (now (word .entry)) (linesOf (now (text .entry))) r ⌝ }
 {
@@ -29,7 +29,7 @@ pub fn find_line(text: &[u8], word: &[u8]) -> Option<usize>
 }
 
 // The line with this number, from 0, without its byte 10.
-pub fn line_at(text: &[u8], wanted: usize) -> Option<&[u8]>
+pub(crate) fn line_at(text: &[u8], wanted: usize) -> Option<&[u8]>
     ensures { λ r. ⌜ mapped now r ≡ nth (linesOf (now (text .entry))) wanted ⌝ }
 {
     let mut start = 0;
@@ -46,7 +46,7 @@ pub fn line_at(text: &[u8], wanted: usize) -> Option<&[u8]>
     None
 }
 
-pub fn line_count(text: &[u8]) -> usize
+pub(crate) fn line_count(text: &[u8]) -> usize
     ensures { λ r. ⌜ r ≡ length (linesOf (now (text .entry))) ⌝ }
 {
     let mut count = 0;
@@ -58,7 +58,7 @@ pub fn line_count(text: &[u8]) -> usize
     count
 }
 
-pub fn same(left: &[u8], right: &[u8]) -> bool
+pub(crate) fn same(left: &[u8], right: &[u8]) -> bool
     ensures { λ r. ⌜ r ≡ sameBytes (now (left .entry)) (now (right .entry)) ⌝ }
 {
     left == right

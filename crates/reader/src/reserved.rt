@@ -3,7 +3,7 @@ ghost use mathlib.Core.Path.{_≡_};
 ghost use Rattle.reader.specs.Names.{isReserved};
 use crate::lines::same;
 
-pub fn is_reserved(word: &[u8]) -> bool
+pub(crate) fn is_reserved(word: &[u8]) -> bool
     ensures { λ r. ⌜ r ≡ isReserved (now (word .entry)) ⌝ }
 {
     same(word, b"if")

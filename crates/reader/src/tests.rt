@@ -58,7 +58,7 @@ fn lists_that_are_good() -> Result<(), Fail> {
     Ok(())
 }
 
-// So many names, a0 to a9, b0 to b9 and on.
+// So many different names, each a letter and a digit.
 fn many(heap: Global, count: u8) -> Result<Vec<u8>, AllocError> {
     let mut text = Vec::new(heap);
     for i in 0..count {

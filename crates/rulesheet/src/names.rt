@@ -7,7 +7,7 @@ use std::fs;
 use std::io;
 use std::str::from_utf8;
 
-pub fn names(rt: &LibcRuntime, path: &str) -> io::Result<Outcome> {
+pub(crate) fn names(rt: &LibcRuntime, path: &str) -> io::Result<Outcome> {
     let text = match fs::read(rt, path) {
         Ok(text) => text,
         Err(e) => {
