@@ -1,0 +1,11 @@
+use lib.ListN.{length}
+use Rattle.folds.proofs.ExactDepths.{exact}
+use Rattle.folds.proofs.depths.stack_depth.Needs as need
+
+pub returns : need.returns
+returns c =
+    record {
+      value = c .fold .ensures .value;
+      slots = c .fold .ensures .slots;
+      exact = exact (c .args .points) (c .args .rows .now) (length (c .args .slots .now)) (c .fold .result) (c .fold .ensures .tree);
+    }
