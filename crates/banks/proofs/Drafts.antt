@@ -1,0 +1,47 @@
+-- The laws of drafts: kept writes are direct writes, and two overlays are one.
+use mathlib.Core.Path.{_≡_, refl, ap, sym, _∙_}
+use mathlib.Core.List.{List, [], _∷_}
+use mathlib.Core.Logic.{⊎-elim}
+use mathlib.Core.Bool.{cond}
+use Prim.Native.Nat.{ℕ, suc, _<_, _≤_}
+use native.Mathlib.Omega.{arith}
+use lib.Dec.{ltb}
+use lib.IntN.{ℤ}
+use lib.ListN.{length, set, length-set}
+use Rattle.std.specs.declared.option.Option.{Option}
+use Rattle.std.specs.declared.option.Option.the-variants.{Some, None}
+use Rattle.std.proofs.shelf.Tests.{cases-lt}
+use Rattle.std.proofs.shelf.Ways.{tells}
+use Rattle.banks.specs.Points.{wrote}
+use Rattle.banks.specs.Overlay.{overlaid, top, blank, noted}
+use Rattle.banks.specs.Laws.{written, scribbled, Direct, AsOne, both, upper}
+use Rattle.banks.proofs.Overlaid.{overlaid-nil, overlaid-blank, length-blank, length-overlaid, set-overlaid}
+
+pub length-noted : (n : ℕ) (os : List (Option ℤ)) (p : ℕ) (v : ℤ) → length (noted n os p v .1) ≡ length os
+length-noted n os p v = grind (arith, tells, length-set)
+
+-- one write on top, as it shows
+pub noted-shows : (xs : List ℤ) (os : List (Option ℤ)) (p : ℕ) (v : ℤ) → length xs ≤ length os → overlaid xs (noted (length xs) os p v .1) ≡ wrote (overlaid xs os) p v .1
+noted-shows xs os p v h = grind (arith, tells, length-overlaid, set-overlaid)
+
+scribbled-shows : (xs : List ℤ) (os : List (Option ℤ)) (ws : List (ℕ × ℤ)) → length xs ≤ length os → overlaid xs (scribbled (length xs) os ws) ≡ written (overlaid xs os) ws
+scribbled-shows xs os [] h = refl
+scribbled-shows xs os (w ∷ ws) h =
+    let n = length-noted (length xs) os (w .0) (w .1) in
+    scribbled-shows xs (noted (length xs) os (w .0) (w .1) .1) ws (omega arith) ∙ ap (λ t. written t ws) (noted-shows xs os (w .0) (w .1) h)
+
+pub is-direct : (xs : List ℤ) (os : List (Option ℤ)) → length xs ≤ 64 → Direct xs os (overlaid xs os)
+is-direct xs os h ws e =
+    let n = length-blank in
+    ap (overlaid xs) e ∙ scribbled-shows xs blank ws (omega arith) ∙ ap (λ t. written t ws) (overlaid-blank xs)
+
+overlaid-both : (zs : List ℤ) (os us : List (Option ℤ)) → overlaid (overlaid zs os) us ≡ overlaid zs (both os us)
+unfolding overlaid both
+overlaid-both [] os us = refl
+overlaid-both (z ∷ zs) [] us = refl
+overlaid-both (z ∷ zs) (o ∷ os) [] = refl
+overlaid-both (z ∷ zs) (o ∷ os) (Some v ∷ us) = ap (λ t. v ∷ t) (overlaid-both zs os us)
+overlaid-both (z ∷ zs) (o ∷ os) (None ∷ us) = ap (λ t. top o z ∷ t) (overlaid-both zs os us)
+
+pub is-one : (xs : List ℤ) (us : List (Option ℤ)) → AsOne xs us (overlaid xs us)
+is-one xs us zs os e = ap (λ t. overlaid t us) e ∙ overlaid-both zs os us

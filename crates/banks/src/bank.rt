@@ -1,0 +1,52 @@
+// What every bank promises, and nothing of how one keeps it.
+ghost use mathlib.Core.Path.{_≡_};
+ghost use mathlib.Core.List.{List};
+ghost use Prim.Native.Nat.{ℕ, _≤_};
+ghost use lib.IntN.{ℤ};
+ghost use lib.ListN.{length};
+ghost use Rattle.banks.specs.Points.{told, wrote, answer, noPoint};
+use faults::BankCause;
+use faults::Fault;
+use faults::Layer;
+
+// A struct, so that a reading can come to tell more than the number without a change to those who ask for it.
+#[derive(Clone, Copy)]
+pub struct Reading {
+    // the point's number, none past the end
+    pub value: Option<i32>,
+}
+
+// A struct for the same reason.
+#[derive(Clone, Copy)]
+pub struct Writing {
+    // the number that stands at the point from now on
+    pub value: i32,
+}
+
+pub trait Bank {
+    // The meaning.
+    ghost points: { Self → List ℤ };
+
+    // Bookkeeping: the loans that a bank stands on, and the lent bytes that belong to no point. No write changes
+    // them, so that who lent the memory knows it afterwards. A bank that borrows nothing gives the empty list, and
+    // no law speaks of it.
+    ghost mark: { Self → List ℕ };
+
+    fn count(&self) -> usize
+        ensures value { λ r. ⌜ r ≡ length (points (now (self .entry))) ⌝ }
+        ensures few { λ r. ⌜ r ≤ 64 ⌝ };
+
+    fn read(&self, point: usize) -> Reading
+        ensures { λ r. ⌜ r .value ≡ told (points (now (self .entry))) point ⌝ };
+
+    fn write(&mut self, point: usize, value: i32) -> Result<Writing, Fault>
+        ensures value { λ r. ⌜ (answer r, points (now (self .exit))) ≡ wrote (points (now (self .entry))) point value ⌝ }
+        ensures same { λ _. ⌜ mark (now (self .exit)) ≡ mark (now (self .entry)) ⌝ };
+}
+
+// The refusal of a point, or of a count of points.
+pub(crate) fn no_point(point: usize) -> Fault
+    ensures { λ r. ⌜ r ≡ noPoint point ⌝ }
+{
+    Fault { layer: Layer::Bank(BankCause::NoPoint), figure: point as u64 }
+}
