@@ -10,6 +10,8 @@ use lib.IntN.{ℤ}
 use lib.ListN.{length, set, length-set}
 use Rattle.std.specs.declared.option.Option.{Option}
 use Rattle.std.specs.declared.option.Option.the-variants.{Some, None}
+use Rattle.std.specs.declared.result.Result.{Result}
+use Rattle.faults.specs.declared.fault.Fault.{Fault}
 use Rattle.std.proofs.shelf.Tests.{cases-lt}
 use Rattle.std.proofs.shelf.Ways.{tells}
 use Rattle.banks.specs.Points.{wrote}
@@ -23,6 +25,10 @@ length-noted n os p v = grind (arith, tells, length-set)
 -- one write on top, as it shows
 pub noted-shows : (xs : List ℤ) (os : List (Option ℤ)) (p : ℕ) (v : ℤ) → length xs ≤ length os → overlaid xs (noted (length xs) os p v .1) ≡ wrote (overlaid xs os) p v .1
 noted-shows xs os p v h = grind (arith, tells, length-overlaid, set-overlaid)
+
+-- the same of the answer and the overlay together
+pub write-shows : (xs : List ℤ) (os us : List (Option ℤ)) (p : ℕ) (v : ℤ) (r : Result ℤ Fault) → length xs ≤ length os → (r, us) ≡ noted (length xs) os p v → (r, overlaid xs us) ≡ wrote (overlaid xs os) p v
+write-shows xs os us p v r h e = ap (λ t. (t .0, overlaid xs (t .1))) e ∙ grind (arith, tells, length-overlaid, set-overlaid)
 
 scribbled-shows : (xs : List ℤ) (os : List (Option ℤ)) (ws : List (ℕ × ℤ)) → length xs ≤ length os → overlaid xs (scribbled (length xs) os ws) ≡ written (overlaid xs os) ws
 scribbled-shows xs os [] h = refl

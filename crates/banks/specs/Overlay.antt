@@ -38,3 +38,7 @@ kept xs os = overlaid xs os
 
 abbrev pub dropped : {X : Type 0} → X → List (Option ℤ) → X
 dropped x os = x
+
+-- a draft at its beginning: the bank below, and nothing written
+abbrev pub opened : {X : Type 0} → X → X × List (Option ℤ)
+opened x = (x, blank)

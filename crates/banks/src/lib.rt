@@ -1,5 +1,6 @@
 // Banks: where a station's points stand, and the drafts that lie over them.
 mod bank;
+mod draft;
 mod kept;
 mod overlay;
 mod registers;
@@ -7,6 +8,8 @@ mod registers;
 pub use bank::Bank;
 pub use bank::Reading;
 pub use bank::Writing;
+pub use draft::Draft;
+pub use draft::DraftBank;
 pub use kept::Kept;
 pub use kept::KeptBank;
 pub use overlay::Overlay;

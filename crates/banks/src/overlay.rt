@@ -2,6 +2,7 @@
 // can hold an overlay from one call to the next, read its bank meanwhile, and lay a second overlay over it.
 ghost use mathlib.Core.Path.{_≡_};
 ghost use mathlib.Core.List.{List};
+ghost use Prim.Native.Nat.{_≤_};
 ghost use lib.IntN.{ℤ};
 ghost use lib.ListN.{length};
 ghost use Rattle.banks.specs.Points.{answer, told, wrote};
@@ -45,7 +46,16 @@ impl Overlay {
         ensures value { λ r. ⌜ (answer r, now (self .exit) .held) ≡ noted (length (points (now (bank .entry)))) (now (self .entry) .held) point value ⌝ }
         ensures seen { λ r. ⌜ (answer r, overlaid (points (now (bank .entry))) (now (self .exit) .held)) ≡ wrote (overlaid (points (now (bank .entry))) (now (self .entry) .held)) point value ⌝ }
     {
-        if point >= bank.count() {
+        let count = bank.count();
+        self.note(count, point, value)
+    }
+
+    // A write on top of as many points as a bank has.
+    pub(crate) fn note(&mut self, count: usize, point: usize, value: i32) -> Result<Writing, Fault>
+        requires { ⌜ count ≤ 64 ⌝ }
+        ensures { λ r. ⌜ (answer r, now (self .exit) .held) ≡ noted count (now (self .entry) .held) point value ⌝ }
+    {
+        if point >= count {
             return Err(no_point(point));
         }
         self.held[point] = Some(value);
