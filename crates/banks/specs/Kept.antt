@@ -13,7 +13,10 @@ use mir.Syntax.{w32}
 use Rattle.std.specs.declared.result.Result.{Result}
 use Rattle.std.specs.declared.result.Result.the-variants.{Ok, Err}
 use Rattle.faults.specs.declared.fault.Fault.{Fault}
+use denote.Ref.{now, name}
+use Rattle.banks.specs.Fixed.{Fixed, inBytes}
 use Rattle.banks.specs.Points.{noPoint}
+use Rattle.banks.specs.declared.kept.Kept.{Kept}
 
 -- the number that four bytes are, and the four bytes of a number
 abbrev pub number : ℕ → ℕ → ℕ → ℕ → ℤ
@@ -58,3 +61,10 @@ put bs p v = take (4 * p) bs ++ (four v ++ drop (4 * p + 4) bs)
 -- the answer to a write, and every byte after it
 abbrev pub stored : List ℕ → ℕ → ℤ → Result ℤ Fault × List ℕ
 stored bs p v = cond (ltb p (length (numbersIn bs))) (Ok v, put bs p v) (Err (noPoint p), bs)
+
+-- the lent bytes as they are, and what of them no write changes
+abbrev pub bytesOf : Kept → List ℕ
+bytesOf k = now (k .bytes)
+
+abbrev pub lending : Kept → List Fixed
+lending k = inBytes (name (k .bytes)) (spare (bytesOf k))

@@ -1,6 +1,6 @@
 -- Writes that lie on top of a bank. For each of 64 points an overlay holds a number, or none where nothing was
 -- written; what the bank and the overlay show together is the number on top where there is one, else the one below.
--- That is all there is to a draft: it is this list, and it ends by becoming the bank's own or by going away.
+-- To keep the writes is to make that list the bank's own.
 use mathlib.Core.Bool.{cond}
 use mathlib.Core.List.{List, [], _∷_}
 use Prim.Native.Nat.{ℕ}
@@ -12,7 +12,7 @@ use Rattle.std.specs.declared.option.Option.the-variants.{Some, None}
 use Rattle.std.specs.declared.result.Result.{Result}
 use Rattle.std.specs.declared.result.Result.the-variants.{Ok, Err}
 use Rattle.faults.specs.declared.fault.Fault.{Fault}
-use Rattle.banks.specs.Points.{noPoint, wrote}
+use Rattle.banks.specs.Points.{noPoint}
 
 -- the number on top where there is one, else the one below
 abbrev pub top : Option ℤ → ℤ → ℤ
@@ -32,13 +32,6 @@ blank = replicate 64 None
 abbrev pub noted : ℕ → List (Option ℤ) → ℕ → ℤ → Result ℤ Fault × List (Option ℤ)
 noted n os p v = cond (ltb p n) (Ok v, set os p (Some v)) (Err (noPoint p), os)
 
--- the two ways a draft ends: its writes go down, or the bank is as it was
-abbrev pub kept : List ℤ → List (Option ℤ) → List ℤ
-kept xs os = overlaid xs os
-
-abbrev pub dropped : {X : Type 0} → X → List (Option ℤ) → X
-dropped x os = x
-
--- a draft at its beginning: the bank below, and nothing written
+-- something, and nothing written on top of it
 abbrev pub opened : {X : Type 0} → X → X × List (Option ℤ)
 opened x = (x, blank)

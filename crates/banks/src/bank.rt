@@ -1,9 +1,10 @@
 // What every bank promises, and nothing of how one keeps it.
 ghost use mathlib.Core.Path.{_≡_};
 ghost use mathlib.Core.List.{List};
-ghost use Prim.Native.Nat.{ℕ, _≤_};
+ghost use Prim.Native.Nat.{_≤_};
 ghost use lib.IntN.{ℤ};
 ghost use lib.ListN.{length};
+ghost use Rattle.banks.specs.Fixed.{Fixed};
 ghost use Rattle.banks.specs.Points.{told, wrote, answer, noPoint};
 use faults::BankCause;
 use faults::Fault;
@@ -27,10 +28,9 @@ pub trait Bank {
     // The meaning.
     ghost points: { Self → List ℤ };
 
-    // Bookkeeping: the loans that a bank stands on, and the lent bytes that belong to no point. No write changes
-    // them, so that who lent the memory knows it afterwards. A bank that borrows nothing gives the empty list, and
-    // no law speaks of it.
-    ghost mark: { Self → List ℕ };
+    // Bookkeeping: the loans that the bank holds and what they cover beside its points. Every write leaves it, so that
+    // a lender knows his memory afterwards; no law speaks of it, and a bank may list nothing.
+    ghost fixed: { Self → List Fixed };
 
     fn count(&self) -> usize
         ensures value { λ r. ⌜ r ≡ length (points (now (self .entry))) ⌝ }
@@ -41,7 +41,7 @@ pub trait Bank {
 
     fn write(&mut self, point: usize, value: i32) -> Result<Writing, Fault>
         ensures value { λ r. ⌜ (answer r, points (now (self .exit))) ≡ wrote (points (now (self .entry))) point value ⌝ }
-        ensures same { λ _. ⌜ mark (now (self .exit)) ≡ mark (now (self .entry)) ⌝ };
+        ensures same { λ _. ⌜ fixed (now (self .exit)) ≡ fixed (now (self .entry)) ⌝ };
 }
 
 // The refusal of a point, or of a count of points.

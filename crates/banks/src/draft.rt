@@ -1,9 +1,9 @@
 // A draft: a bank with writes on top that are not its own yet.
 ghost use mathlib.Core.Path.{_≡_};
-ghost use mathlib.Core.List.{_∷_};
-ghost use denote.Ref.{now as behind, name};
+ghost use denote.Ref.{name};
 ghost use Rattle.banks.specs.Points.{answer, wrote};
-ghost use Rattle.banks.specs.Overlay.{overlaid, kept, dropped, opened};
+ghost use Rattle.banks.specs.Draft.{ground, saved, shown, stays};
+ghost use Rattle.banks.specs.Overlay.{opened};
 ghost use Rattle.banks.specs.Laws.{Direct, AsOne};
 use crate::bank::Bank;
 use crate::bank::Reading;
@@ -19,33 +19,38 @@ pub struct Draft<'a, B> {
 
 impl<'a, B: Bank> Draft<'a, B> {
     pub fn new(below: &'a mut B) -> Draft<'a, B>
-        ensures value { λ r. ⌜ (behind (r .below), r .over .held) ≡ opened (now (below .entry)) ⌝ }
-        ensures same { λ r. ⌜ name (r .below) ≡ name (below .entry) ⌝ }
+        ensures value { λ r. ⌜ (ground r, saved r) ≡ opened (now (below .entry)) ⌝ }
+        ensures loan { λ r. ⌜ name (r .below) ≡ name (below .entry) ⌝ }
     {
         Draft { below, over: Overlay::new() }
     }
 
-    pub fn keep(self)
-        ensures value { λ _. ⌜ points (now (self .exit .0)) ≡ kept (points (behind (self .entry .below))) (self .entry .over .held) ⌝ }
-        ensures same { λ _. ⌜ mark (now (self .exit .0)) ≡ mark (behind (self .entry .below)) ⌝ }
-        ensures direct { λ _. ⌜ Direct (points (behind (self .entry .below))) (self .entry .over .held) (points (now (self .exit .0))) ⌝ }
-        ensures one { λ _. ⌜ AsOne (points (behind (self .entry .below))) (self .entry .over .held) (points (now (self .exit .0))) ⌝ }
+    // The writes go down, and the draft is blank again.
+    pub fn keep(&mut self)
+        ensures value { λ _. ⌜ (points (ground (now (self .exit))), saved (now (self .exit))) ≡ opened (shown points (now (self .entry))) ⌝ }
+        ensures same { λ _. ⌜ fixed (ground (now (self .exit))) ≡ fixed (ground (now (self .entry))) ⌝ }
+        ensures loan { λ _. ⌜ name (now (self .exit) .below) ≡ name (now (self .entry) .below) ⌝ }
+        ensures direct { λ _. ⌜ Direct (points (ground (now (self .entry)))) (saved (now (self .entry))) (points (ground (now (self .exit)))) ⌝ }
+        ensures one { λ _. ⌜ AsOne (points (ground (now (self .entry)))) (saved (now (self .entry))) (points (ground (now (self .exit)))) ⌝ }
     {
         let Draft { below, over } = self;
-        over.keep(below);
+        over.keep(&mut **below);
+        *over = Overlay::new();
     }
 
-    pub fn discard(self)
-        ensures { λ _. ⌜ now (self .exit .0) ≡ dropped (behind (self .entry .below)) (self .entry .over .held) ⌝ }
+    // The writes go away, and the draft is blank again.
+    pub fn discard(&mut self)
+        ensures value { λ _. ⌜ (ground (now (self .exit)), saved (now (self .exit))) ≡ opened (ground (now (self .entry))) ⌝ }
+        ensures loan { λ _. ⌜ name (now (self .exit) .below) ≡ name (now (self .entry) .below) ⌝ }
     {
-        let Draft { below: _, over: _ } = self;
+        self.over = Overlay::new();
     }
 }
 
 pub impl<'a, B: Bank> Bank for Draft<'a, B> as DraftBank {
-    ghost points = { λ d. overlaid (B·Bank .points (behind (d .below))) (d .over .held) };
+    ghost points = { shown (B·Bank .points) };
 
-    ghost mark = { λ d. name (d .below) ∷ B·Bank .mark (behind (d .below)) };
+    ghost fixed = { stays (B·Bank .points) (B·Bank .fixed) };
 
     fn count(&self) -> usize {
         self.below.count()
@@ -56,9 +61,9 @@ pub impl<'a, B: Bank> Bank for Draft<'a, B> as DraftBank {
     }
 
     fn write(&mut self, point: usize, value: i32) -> Result<Writing, Fault>
-        ensures value { λ r. ⌜ (answer r, overlaid (B·Bank .points (behind (now (self .exit) .below))) (now (self .exit) .over .held)) ≡ wrote (overlaid (B·Bank .points (behind (now (self .entry) .below))) (now (self .entry) .over .held)) point value ⌝ }
-        ensures same { λ _. ⌜ (name (now (self .exit) .below) ∷ B·Bank .mark (behind (now (self .exit) .below))) ≡ (name (now (self .entry) .below) ∷ B·Bank .mark (behind (now (self .entry) .below))) ⌝ }
-        ensures untouched { λ _. ⌜ behind (now (self .exit) .below) ≡ behind (now (self .entry) .below) ⌝ }
+        ensures value { λ r. ⌜ (answer r, shown (B·Bank .points) (now (self .exit))) ≡ wrote (shown (B·Bank .points) (now (self .entry))) point value ⌝ }
+        ensures same { λ _. ⌜ stays (B·Bank .points) (B·Bank .fixed) (now (self .exit)) ≡ stays (B·Bank .points) (B·Bank .fixed) (now (self .entry)) ⌝ }
+        ensures untouched { λ _. ⌜ ground (now (self .exit)) ≡ ground (now (self .entry)) ⌝ }
     {
         let count = self.below.count();
         self.over.note(count, point, value)

@@ -1,11 +1,11 @@
 // A bank in memory that the caller lends.
 ghost use mathlib.Core.Path.{_≡_};
-ghost use mathlib.Core.List.{_∷_, _++_};
+ghost use mathlib.Core.List.{_++_};
 ghost use Prim.Native.Nat.{ℕ, _<_, _≤_, _/_, min};
 ghost use lib.ListN.{length, getD};
-ghost use denote.Ref.{now as behind, name};
+ghost use denote.Ref.{name};
 ghost use Rattle.banks.specs.Points.{answer, wrote};
-ghost use Rattle.banks.specs.Kept.{numbersIn, spare, laid, stored};
+ghost use Rattle.banks.specs.Kept.{bytesOf, lending, numbersIn, spare, laid, stored};
 use crate::bank::Bank;
 use crate::bank::Reading;
 use crate::bank::Writing;
@@ -19,7 +19,7 @@ pub struct Kept<'a> {
 
 impl<'a> Kept<'a> {
     pub fn new(bytes: &'a mut [u8]) -> Kept<'a>
-        ensures value { λ r. ⌜ behind (r .bytes) ≡ now (bytes .entry) ⌝ }
+        ensures value { λ r. ⌜ bytesOf r ≡ now (bytes .entry) ⌝ }
         ensures same { λ r. ⌜ name (r .bytes) ≡ name (bytes .entry) ⌝ }
     {
         Kept { bytes }
@@ -27,8 +27,8 @@ impl<'a> Kept<'a> {
 
     // Every byte of the lent memory: the points, and after them what belongs to none.
     pub fn bytes(&self) -> &[u8]
-        ensures value { λ r. ⌜ now r ≡ laid (numbersIn (behind (now (self .entry) .bytes))) ++ spare (behind (now (self .entry) .bytes)) ⌝ }
-        ensures lent { λ r. ⌜ now r ≡ behind (now (self .entry) .bytes) ⌝ }
+        ensures value { λ r. ⌜ now r ≡ laid (numbersIn (bytesOf (now (self .entry)))) ++ spare (bytesOf (now (self .entry))) ⌝ }
+        ensures whole { λ r. ⌜ now r ≡ bytesOf (now (self .entry)) ⌝ }
     {
         known(self.bytes)
     }
@@ -46,17 +46,17 @@ fn known(bytes: &[u8]) -> &[u8]
 }
 
 pub impl<'a> Bank for Kept<'a> as KeptBank {
-    ghost points = { λ k. numbersIn (behind (k .bytes)) };
+    ghost points = { λ k. numbersIn (bytesOf k) };
 
-    ghost mark = { λ k. name (k .bytes) ∷ spare (behind (k .bytes)) };
+    ghost fixed = { lending };
 
     fn count(&self) -> usize
-        ensures value { λ r. ⌜ r ≡ length (numbersIn (behind (now (self .entry) .bytes))) ⌝ }
+        ensures value { λ r. ⌜ r ≡ length (numbersIn (bytesOf (now (self .entry)))) ⌝ }
         ensures few { λ r. ⌜ r ≤ 64 ⌝ }
-        ensures fit { λ r. ⌜ r ≡ min 64 (length (behind (now (self .entry) .bytes)) / 4) ⌝ }
+        ensures fit { λ r. ⌜ r ≡ min 64 (length (bytesOf (now (self .entry))) / 4) ⌝ }
     {
-        let whole = self.bytes.len() / 4;
-        if whole < 64 { whole } else { 64 }
+        let fours = self.bytes.len() / 4;
+        if fours < 64 { fours } else { 64 }
     }
 
     fn read(&self, point: usize) -> Reading {
@@ -70,9 +70,9 @@ pub impl<'a> Bank for Kept<'a> as KeptBank {
     }
 
     fn write(&mut self, point: usize, value: i32) -> Result<Writing, Fault>
-        ensures value { λ r. ⌜ (answer r, numbersIn (behind (now (self .exit) .bytes))) ≡ wrote (numbersIn (behind (now (self .entry) .bytes))) point value ⌝ }
-        ensures same { λ _. ⌜ (name (now (self .exit) .bytes) ∷ spare (behind (now (self .exit) .bytes))) ≡ (name (now (self .entry) .bytes) ∷ spare (behind (now (self .entry) .bytes))) ⌝ }
-        ensures every { λ r. ⌜ (answer r, behind (now (self .exit) .bytes)) ≡ stored (behind (now (self .entry) .bytes)) point value ⌝ }
+        ensures value { λ r. ⌜ (answer r, numbersIn (bytesOf (now (self .exit)))) ≡ wrote (numbersIn (bytesOf (now (self .entry)))) point value ⌝ }
+        ensures same { λ _. ⌜ lending (now (self .exit)) ≡ lending (now (self .entry)) ⌝ }
+        ensures every { λ r. ⌜ (answer r, bytesOf (now (self .exit))) ≡ stored (bytesOf (now (self .entry))) point value ⌝ }
     {
         if point < self.count() {
             let at = 4 * point;

@@ -6,7 +6,7 @@ ghost use Prim.Native.Nat.{_≤_};
 ghost use lib.IntN.{ℤ};
 ghost use lib.ListN.{length};
 ghost use Rattle.banks.specs.Points.{answer, told, wrote};
-ghost use Rattle.banks.specs.Overlay.{overlaid, blank, noted, kept};
+ghost use Rattle.banks.specs.Overlay.{overlaid, blank, noted};
 ghost use Rattle.banks.specs.Laws.{Direct, AsOne};
 use crate::bank::Bank;
 use crate::bank::Reading;
@@ -64,8 +64,8 @@ impl Overlay {
 
     // Each saved point is written down once, in point order.
     pub fn keep<B: Bank>(&self, bank: &mut B)
-        ensures value { λ _. ⌜ points (now (bank .exit)) ≡ kept (points (now (bank .entry))) (now (self .entry) .held) ⌝ }
-        ensures same { λ _. ⌜ mark (now (bank .exit)) ≡ mark (now (bank .entry)) ⌝ }
+        ensures value { λ _. ⌜ points (now (bank .exit)) ≡ overlaid (points (now (bank .entry))) (now (self .entry) .held) ⌝ }
+        ensures same { λ _. ⌜ fixed (now (bank .exit)) ≡ fixed (now (bank .entry)) ⌝ }
         ensures direct { λ _. ⌜ Direct (points (now (bank .entry))) (now (self .entry) .held) (points (now (bank .exit))) ⌝ }
         ensures one { λ _. ⌜ AsOne (points (now (bank .entry))) (now (self .entry) .held) (points (now (bank .exit))) ⌝ }
     {

@@ -31,7 +31,7 @@ impl Registers {
 pub impl Bank for Registers as RegistersBank {
     ghost points = { λ x. take (x .count) (x .numbers) };
 
-    ghost mark = { λ _. [] };
+    ghost fixed = { λ _. [] };
 
     fn count(&self) -> usize {
         self.count
