@@ -7,12 +7,12 @@ use native.Mathlib.Omega.{arith}
 use native.Mathlib.Nat.{le-of-suc-le-suc, not-suc-le-zero}
 use lib.IntN.{ℤ, pos}
 use lib.ListN.{length, getD, set, take, drop}
-use mir.Val.{toZ, ofZ, SFits}
-use mir.Syntax.{w32}
+use mir.Val.{toZ, ofZ, Fits, SFits}
+use mir.Syntax.{w8, w32}
 use borrow.Rule.Slice.PartMut.{putMid}
 use Rattle.std.proofs.shelf.Lists.{drop-drop}
 use Rattle.std.proofs.shelf.Signed.{toZ-ofZ, ofZ-toZ, ints}
-use Rattle.banks.specs.Kept.{number, four, words, after, laid, put}
+use Rattle.banks.specs.Kept.{number, four, words, after, laid, put, numbersIn, spare}
 
 pub length-words : (n : ℕ) (bs : List ℕ) → length (words n bs) ≡ min n (length bs / 4)
 unfolding words
@@ -103,6 +103,10 @@ laid-words (suc n) (a ∷ b ∷ []) h = refl
 laid-words (suc n) (a ∷ b ∷ c ∷ []) h = refl
 laid-words (suc n) (a ∷ b ∷ c ∷ d ∷ bs) h =
     ap (λ t. t ++ laid (words n bs) ++ after n bs) (four-number a b c d (h 0) (h 1) (h 2) (h 3)) ∙ ap (λ t. a ∷ b ∷ c ∷ d ∷ t) (laid-words n bs (λ i. h (suc (suc (suc (suc i))))))
+
+-- so whoever knows the points and the spare bytes knows every byte
+pub every-byte : (bs ss : List ℕ) (xs : List ℤ) → ((i : ℕ) → Fits w8 (getD bs i 0)) → numbersIn bs ≡ xs → spare bs ≡ ss → bs ≡ laid xs ++ ss
+every-byte bs ss xs h e f = sym (laid-words 64 bs (λ i. h i .fits)) ∙ ap (λ t. laid t ++ spare bs) e ∙ ap (λ t. laid xs ++ t) f
 
 -- four bytes copied to a point's place
 pub mid-put : (bs ys : List ℕ) (p k : ℕ) (v : ℤ) → k ≡ 4 → ys ≡ four v → putMid (4 * p) k bs ys ≡ put bs p v

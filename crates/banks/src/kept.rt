@@ -20,7 +20,7 @@ pub struct Kept<'a> {
 impl<'a> Kept<'a> {
     pub fn new(bytes: &'a mut [u8]) -> Kept<'a>
         ensures value { λ r. ⌜ bytesOf r ≡ now (bytes .entry) ⌝ }
-        ensures same { λ r. ⌜ name (r .bytes) ≡ name (bytes .entry) ⌝ }
+        ensures loan { λ r. ⌜ name (r .bytes) ≡ name (bytes .entry) ⌝ }
     {
         Kept { bytes }
     }
