@@ -48,5 +48,8 @@ pub trait Bank {
 pub(crate) fn no_point(point: usize) -> Fault
     ensures { λ r. ⌜ r ≡ noPoint point ⌝ }
 {
-    Fault { layer: Layer::Bank(BankCause::NoPoint), figure: point as u64 }
+    Fault {
+        layer: Layer::Bank(BankCause::NoPoint),
+        figure: point as u64,
+    }
 }

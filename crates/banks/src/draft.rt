@@ -22,7 +22,10 @@ impl<'a, B: Bank> Draft<'a, B> {
         ensures value { λ r. ⌜ (ground r, saved r) ≡ opened (now (below .entry)) ⌝ }
         ensures loan { λ r. ⌜ name (r .below) ≡ name (below .entry) ⌝ }
     {
-        Draft { below, over: Overlay::new() }
+        Draft {
+            below,
+            over: Overlay::new(),
+        }
     }
 
     // The writes go down, and the draft is blank again.

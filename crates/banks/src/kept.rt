@@ -62,8 +62,15 @@ pub impl<'a> Bank for Kept<'a> as KeptBank {
     fn read(&self, point: usize) -> Reading {
         if point < self.count() {
             let at = 4 * point;
-            let four = [self.bytes[at], self.bytes[at + 1], self.bytes[at + 2], self.bytes[at + 3]];
-            Reading { value: Some(i32::from_le_bytes(four)) }
+            let four = [
+                self.bytes[at],
+                self.bytes[at + 1],
+                self.bytes[at + 2],
+                self.bytes[at + 3],
+            ];
+            Reading {
+                value: Some(i32::from_le_bytes(four)),
+            }
         } else {
             Reading { value: None }
         }

@@ -24,7 +24,10 @@ impl Registers {
         if count > 64 {
             return Err(no_point(count));
         }
-        Ok(Registers { numbers: [0; 64], count })
+        Ok(Registers {
+            numbers: [0; 64],
+            count,
+        })
     }
 }
 
@@ -39,7 +42,9 @@ pub impl Bank for Registers as RegistersBank {
 
     fn read(&self, point: usize) -> Reading {
         if point < self.count {
-            Reading { value: Some(self.numbers[point]) }
+            Reading {
+                value: Some(self.numbers[point]),
+            }
         } else {
             Reading { value: None }
         }

@@ -18,9 +18,9 @@ loop-point-again g c =
     let n = c .args .self .now .whole in
     let h : c .loop-point .point < length (c .args .self .now .held) = omega arith in
     let m = overlaid-more (g .B·Bank .points (c .args .bank .now)) (c .args .self .now .held) (c .loop-point .point) h in
-    elim (c .match-self-point .came)
-    [ in-Some w ↦ (grind (arith, toZ-ofZ, wrote-sets), grind arith)
-    | in-rest w ↦ (grind arith, grind arith)
+    elim (c .match-self-point .came) [
+      | in-Some w ↦ (grind (arith, toZ-ofZ, wrote-sets), grind arith)
+      | in-rest w ↦ (grind arith, grind arith)
     ]
 
 pub returns : need.returns
@@ -29,9 +29,9 @@ returns g c =
     let os = c .args .self .now .held in
     let h : length xs ≤ c .loop-point .point = omega arith in
     let e : g .B·Bank .points (c .loop-point .bank) ≡ overlaid xs os = c .loop-point .inv .0 ∙ overlaid-take (c .loop-point .point) xs os h in
-    record
-    { value = e
-    ; same = c .loop-point .inv .1
-    ; direct = subst (Direct xs os) (sym e) (is-direct xs os (omega arith))
-    ; one = subst (AsOne xs os) (sym e) (is-one xs os)
+    record {
+      value = e;
+      same = c .loop-point .inv .1;
+      direct = subst (Direct xs os) (sym e) (is-direct xs os (omega arith));
+      one = subst (AsOne xs os) (sym e) (is-one xs os);
     }
