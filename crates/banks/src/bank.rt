@@ -10,6 +10,9 @@ use faults::BankCause;
 use faults::Fault;
 use faults::Layer;
 
+// A bank has at most this many points.
+pub const MOST_POINTS: usize = 64;
+
 // A struct, so that a reading can come to tell more than the number without a change to those who ask for it.
 #[derive(Clone, Copy)]
 pub struct Reading {

@@ -7,6 +7,7 @@ ghost use denote.Ref.{name};
 ghost use Rattle.banks.specs.Points.{answer, wrote};
 ghost use Rattle.banks.specs.Kept.{bytesOf, lending, numbersIn, spare, laid, stored};
 use crate::bank::Bank;
+use crate::bank::MOST_POINTS;
 use crate::bank::Reading;
 use crate::bank::Writing;
 use crate::bank::no_point;
@@ -56,7 +57,7 @@ pub impl<'a> Bank for Kept<'a> as KeptBank {
         ensures fit { λ r. ⌜ r ≡ min 64 (length (bytesOf (now (self .entry))) / 4) ⌝ }
     {
         let fours = self.bytes.len() / 4;
-        if fours < 64 { fours } else { 64 }
+        fours.min(MOST_POINTS)
     }
 
     fn read(&self, point: usize) -> Reading {

@@ -6,6 +6,7 @@ mod overlay;
 mod registers;
 
 pub use bank::Bank;
+pub use bank::MOST_POINTS;
 pub use bank::Reading;
 pub use bank::Writing;
 pub use draft::Draft;

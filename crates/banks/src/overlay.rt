@@ -9,6 +9,7 @@ ghost use Rattle.banks.specs.Points.{answer, told, wrote};
 ghost use Rattle.banks.specs.Overlay.{overlaid, blank, noted};
 ghost use Rattle.banks.specs.Laws.{Direct, AsOne};
 use crate::bank::Bank;
+use crate::bank::MOST_POINTS;
 use crate::bank::Reading;
 use crate::bank::Writing;
 use crate::bank::no_point;
@@ -17,7 +18,7 @@ use faults::Fault;
 #[derive(Clone, Copy)]
 pub struct Overlay {
     // for each point the number written to it, if any
-    held: [Option<i32>; 64],
+    held: [Option<i32>; MOST_POINTS],
     ghost whole: { length held ≡ 64 },
 }
 
@@ -26,7 +27,9 @@ impl Overlay {
         ensures value { λ r. ⌜ r .held ≡ blank ⌝ }
         ensures clear { λ r. ⌜ ((xs : List ℤ) → overlaid xs (r .held) ≡ xs) ⌝ }
     {
-        Overlay { held: [None; 64] }
+        Overlay {
+            held: [None; MOST_POINTS],
+        }
     }
 
     pub fn read<B: Bank>(&self, bank: &B, point: usize) -> Reading

@@ -5,6 +5,7 @@ ghost use Prim.Native.Nat.{_≤_};
 ghost use lib.ListN.{take};
 ghost use Rattle.banks.specs.Registers.{cleared, pointsIn};
 use crate::bank::Bank;
+use crate::bank::MOST_POINTS;
 use crate::bank::Reading;
 use crate::bank::Writing;
 use crate::bank::no_point;
@@ -12,7 +13,7 @@ use faults::Fault;
 
 #[derive(Drop)]
 pub struct Registers {
-    numbers: [i32; 64],
+    numbers: [i32; MOST_POINTS],
     count: usize,
     ghost few: { count ≤ 64 },
 }
@@ -21,11 +22,11 @@ impl Registers {
     pub fn new(count: usize) -> Result<Registers, Fault>
         ensures { λ r. ⌜ pointsIn (λ x. take (x .count) (x .numbers)) r ≡ cleared count ⌝ }
     {
-        if count > 64 {
+        if count > MOST_POINTS {
             return Err(no_point(count));
         }
         Ok(Registers {
-            numbers: [0; 64],
+            numbers: [0; MOST_POINTS],
             count,
         })
     }

@@ -2,12 +2,7 @@ use native.Mathlib.Omega.{arith}
 use Rattle.banks.proofs.Words.{length-words}
 use Rattle.banks.proofs.kept.KeptBank.count.Needs as need
 
-pub returns-then-fours-lt64 : need.returns-then-fours-lt64
-returns-then-fours-lt64 c =
-    let k = length-words 64 (c .args .self .now .bytes .now) in
-    record { value = omega arith; few = omega arith; fit = omega arith }
-
-pub returns-else-fours-lt64 : need.returns-else-fours-lt64
-returns-else-fours-lt64 c =
+pub returns : need.returns
+returns c =
     let k = length-words 64 (c .args .self .now .bytes .now) in
     record { value = omega arith; few = omega arith; fit = omega arith }
