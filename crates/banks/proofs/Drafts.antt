@@ -1,26 +1,29 @@
 -- The laws of drafts: kept writes are direct writes, and two overlays are one.
-use mathlib.Core.Path.{_≡_, refl, ap, sym, _∙_}
+use mathlib.Core.Path.{_≡_, refl, ap, _∙_}
 use mathlib.Core.List.{List, [], _∷_}
-use mathlib.Core.Logic.{⊎-elim}
-use mathlib.Core.Bool.{cond}
-use Prim.Native.Nat.{ℕ, suc, _<_, _≤_}
+use Prim.Native.Nat.{ℕ, _≤_}
 use native.Mathlib.Omega.{arith}
-use lib.Dec.{ltb}
 use lib.IntN.{ℤ}
-use lib.ListN.{length, set, length-set}
+use lib.ListN.{length, length-set}
+use mir.Syntax.{w32}
+use mir.Val.{toZ, ofZ, SFits}
 use Rattle.std.specs.declared.option.Option.{Option}
 use Rattle.std.specs.declared.option.Option.the-variants.{Some, None}
 use Rattle.std.specs.declared.result.Result.{Result}
 use Rattle.faults.specs.declared.fault.Fault.{Fault}
-use Rattle.std.proofs.shelf.Tests.{cases-lt}
+use Rattle.std.proofs.shelf.Signed.{toZ-ofZ}
 use Rattle.std.proofs.shelf.Ways.{tells}
 use Rattle.banks.specs.Points.{wrote}
 use Rattle.banks.specs.Overlay.{overlaid, top, blank, noted}
-use Rattle.banks.specs.Laws.{written, scribbled, Direct, AsOne, both, upper}
-use Rattle.banks.proofs.Overlaid.{overlaid-nil, overlaid-blank, length-blank, length-overlaid, set-overlaid}
+use Rattle.banks.specs.Laws.{written, scribbled, Direct, AsOne, both}
+use Rattle.banks.proofs.Overlaid.{overlaid-blank, length-blank, length-overlaid, set-overlaid}
 
 pub length-noted : (n : ℕ) (os : List (Option ℤ)) (p : ℕ) (v : ℤ) → length (noted n os p v .1) ≡ length os
 length-noted n os p v = grind (arith, tells, length-set)
+
+-- a write by as many points as a bank counted, and of a number that was passed on
+pub noted-as : (n m : ℕ) (os : List (Option ℤ)) (p : ℕ) (v : ℤ) (t : Result ℤ Fault × List (Option ℤ)) → SFits w32 v → t ≡ noted m os p (toZ w32 (ofZ w32 v)) → m ≡ n → t ≡ noted n os p v
+noted-as n m os p v t f e h = e ∙ ap (λ k. noted k os p (toZ w32 (ofZ w32 v))) h ∙ ap (noted n os p) (toZ-ofZ w32 v f)
 
 -- one write on top, as it shows
 pub noted-shows : (xs : List ℤ) (os : List (Option ℤ)) (p : ℕ) (v : ℤ) → length xs ≤ length os → overlaid xs (noted (length xs) os p v .1) ≡ wrote (overlaid xs os) p v .1

@@ -56,12 +56,16 @@ set-overlaid (x ∷ xs) (o ∷ os) zero v h = refl
 set-overlaid (x ∷ xs) (o ∷ os) (suc p) v h = ap (λ t. top o x ∷ t) (set-overlaid xs os p v (le-of-suc-le-suc h))
 
 -- what the overlay holds past the end does not show
-pub overlaid-take : (n : ℕ) (xs : List ℤ) (os : List (Option ℤ)) → length xs ≤ n → overlaid xs (take n os) ≡ overlaid xs os
+overlaid-take : (n : ℕ) (xs : List ℤ) (os : List (Option ℤ)) → length xs ≤ n → overlaid xs (take n os) ≡ overlaid xs os
 unfolding overlaid
 overlaid-take n [] os h = refl
 overlaid-take zero (x ∷ xs) os h = absurd (not-suc-le-zero h)
 overlaid-take (suc n) (x ∷ xs) [] h = refl
 overlaid-take (suc n) (x ∷ xs) (o ∷ os) h = ap (λ t. top o x ∷ t) (overlaid-take n xs os (le-of-suc-le-suc h))
+
+-- so when all points of a list are written down, the whole of it shows
+pub overlaid-all : (ys xs : List ℤ) (os : List (Option ℤ)) (n : ℕ) → ys ≡ overlaid xs (take n os) → length xs ≤ n → ys ≡ overlaid xs os
+overlaid-all ys xs os n e h = e ∙ overlaid-take n xs os h
 
 -- one more point written down
 abbrev pub with : List ℤ → ℕ → Option ℤ → List ℤ

@@ -1,4 +1,5 @@
 // Every bank is put through the same paces.
+mod lender;
 mod log;
 
 use banks::Bank;

@@ -1,19 +1,16 @@
-use mathlib.Core.Path.{refl, ap, _∙_}
+use mathlib.Core.Path.{refl}
 use native.Mathlib.Omega.{arith}
-use mir.Val.{toZ, ofZ, SFits}
+use mir.Val.{SFits}
 use mir.Syntax.{w32}
 use borrow.Author.Needs.{needs}
-use Rattle.std.proofs.shelf.Signed.{toZ-ofZ}
-use Rattle.banks.specs.Overlay.{noted}
-use Rattle.banks.proofs.Drafts.{write-shows}
+use Rattle.banks.proofs.Drafts.{noted-as, write-shows}
 use Rattle.banks.proofs.draft.DraftBank.write.Needs as need
 
 pub returns : need.returns
 returns g c =
     let xs = g .B·Bank .points (c .args .self .now .below .now) in
     let os = c .args .self .now .over .held in
-    let p = c .args .point in
     let w = c .args .self .now .over .whole in
     let f : SFits w32 (c .args .value) = search needs in
-    let e = c .note .ensures ∙ ap (λ n. noted n os p (toZ w32 (ofZ w32 (c .args .value)))) (c .count-count .ensures .value) ∙ ap (noted _ os p) (toZ-ofZ w32 (c .args .value) f) in
-    record { value = write-shows xs os _ p (c .args .value) _ (omega arith) e; same = refl; untouched = refl }
+    let e = noted-as _ _ os (c .args .point) (c .args .value) _ f (c .note .ensures) (c .count-count .ensures .value) in
+    record { value = write-shows xs os _ (c .args .point) (c .args .value) _ (omega arith) e; same = refl; untouched = refl }

@@ -1,5 +1,4 @@
-use mathlib.Core.Path.{_≡_, refl, ap, sym, _∙_}
-use mathlib.Core.List.{_∷_}
+use mathlib.Core.Path.{_≡_}
 use Prim.Native.Nat.{_+_, _*_, _-_, _<_}
 use native.Mathlib.Omega.{arith}
 use lib.ListN.{length}
@@ -20,7 +19,7 @@ returns-then-point-count c =
     let f : SFits w32 v = search needs in
     let z : toZ w32 (ofZ w32 v) ≡ v = toZ-ofZ w32 v f in
     let h : p < length (numbersIn bs) = omega arith in
-    let four-is : c .copy-from-slice .last .self ≡ four v = c .copy-from-slice .ensures .after ∙ c .to-le-bytes .ensures ∙ ap four z in
+    let four-is : c .copy-from-slice .last .self ≡ four v = search needs in
     let n : (4 * p + 4) - 4 * p ≡ 4 = omega arith in
     let e = mid-put bs _ p _ v n four-is in
     let w = words-put 64 bs p v f h in

@@ -1,11 +1,10 @@
-use mathlib.Core.Path.{_≡_, refl, subst, sym, _∙_}
-use Prim.Native.Nat.{_<_, _≤_}
+use mathlib.Core.Path.{refl, subst, sym}
+use Prim.Native.Nat.{_<_}
 use native.Mathlib.Omega.{arith}
 use lib.ListN.{length}
 use Rattle.std.proofs.shelf.Signed.{toZ-ofZ}
-use Rattle.banks.specs.Overlay.{overlaid}
 use Rattle.banks.specs.Laws.{Direct, AsOne}
-use Rattle.banks.proofs.Overlaid.{overlaid-nil, overlaid-more, overlaid-take, wrote-sets}
+use Rattle.banks.proofs.Overlaid.{overlaid-nil, overlaid-more, overlaid-all, wrote-sets}
 use Rattle.banks.proofs.Drafts.{is-direct, is-one}
 use Rattle.banks.proofs.overlay.Overlay.keep.Needs.{in-Some, in-rest}
 use Rattle.banks.proofs.overlay.Overlay.keep.Needs as need
@@ -27,11 +26,10 @@ pub returns : need.returns
 returns g c =
     let xs = g .B·Bank .points (c .args .bank .now) in
     let os = c .args .self .now .held in
-    let h : length xs ≤ c .loop-point .point = omega arith in
-    let e : g .B·Bank .points (c .loop-point .bank) ≡ overlaid xs os = c .loop-point .inv .0 ∙ overlaid-take (c .loop-point .point) xs os h in
+    let e = overlaid-all (g .B·Bank .points (c .loop-point .bank)) xs os (c .loop-point .point) (c .loop-point .inv .0) (omega arith) in
     record {
-      value = e;
-      same = c .loop-point .inv .1;
-      direct = subst (Direct xs os) (sym e) (is-direct xs os (omega arith));
-      one = subst (AsOne xs os) (sym e) (is-one xs os);
+        value = e;
+        same = c .loop-point .inv .1;
+        direct = subst (Direct xs os) (sym e) (is-direct xs os (omega arith));
+        one = subst (AsOne xs os) (sym e) (is-one xs os)
     }
