@@ -13,14 +13,14 @@ use faults::Layer;
 // A bank has at most this many points.
 pub const MOST_POINTS: usize = 64;
 
-// A struct, so that a reading can come to tell more than the number without a change to those who ask for it.
+// What reading tells. It is a struct, so that it can come to tell more without a change to those who ask.
 #[derive(Clone, Copy)]
 pub struct Reading {
     // the point's number, none past the end
     pub value: Option<i32>,
 }
 
-// A struct for the same reason.
+// What a write that was taken tells, in a struct for the same reason.
 #[derive(Clone, Copy)]
 pub struct Writing {
     // the number that stands at the point from now on
@@ -28,11 +28,12 @@ pub struct Writing {
 }
 
 pub trait Bank {
-    // The meaning.
+    // The meaning: the points, and nothing else is.
     ghost points: { Self → List ℤ };
 
-    // Bookkeeping: the loans that the bank holds and what they cover beside its points. Every write leaves it, so that
-    // a lender knows his memory afterwards; no law speaks of it, and a bank may list nothing.
+    // Bookkeeping: the loans that a bank holds, and what they cover beside its points. Every write leaves it, so that
+    // a lender knows his memory afterwards. The clauses `same` and `loan`, here and in the other files, are about this
+    // alone; a bank that borrows nothing lists nothing.
     ghost fixed: { Self → List Fixed };
 
     fn count(&self) -> usize

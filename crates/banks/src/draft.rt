@@ -1,4 +1,4 @@
-// A draft: a bank with writes on top that are not its own yet.
+// A draft: a bank with writes on top that are not its own yet. One that is let go has done nothing.
 ghost use mathlib.Core.Path.{_≡_};
 ghost use denote.Ref.{name};
 ghost use Rattle.banks.specs.Points.{answer, wrote};

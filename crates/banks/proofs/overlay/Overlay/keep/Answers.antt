@@ -28,8 +28,8 @@ returns g c =
     let os = c .args .self .now .held in
     let e = overlaid-all (g .B·Bank .points (c .loop-point .bank)) xs os (c .loop-point .point) (c .loop-point .inv .0) (omega arith) in
     record {
-        value = e;
-        same = c .loop-point .inv .1;
-        direct = subst (Direct xs os) (sym e) (is-direct xs os (omega arith));
-        one = subst (AsOne xs os) (sym e) (is-one xs os)
+      value = e;
+      same = c .loop-point .inv .1;
+      direct = subst (Direct xs os) (sym e) (is-direct xs os (omega arith));
+      one = subst (AsOne xs os) (sym e) (is-one xs os);
     }
