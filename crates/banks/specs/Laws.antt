@@ -1,5 +1,5 @@
--- What drafts are for, said of whole lists of writes and without a word about overlays: writes made on a draft and
--- then kept are those writes made on the bank, and two drafts, one over the other, are one.
+-- What drafts are for, said of whole lists of writes: writes made on a draft and then kept are those writes made on the
+-- bank itself, and two drafts, one over the other, are one. Nothing here knows how keeping goes about it.
 use mathlib.Core.Path.{_≡_}
 use mathlib.Core.List.{List, [], _∷_}
 use Prim.Native.Nat.{ℕ}

@@ -108,7 +108,7 @@ fn kept_memory_of_every_length() -> Result<(), Fail> {
         262,
         263,
     ] {
-        let mut memory = [0xa5; 264];
+        let mut memory = [0x5c; 264];
         let count = (length / 4).min(64);
         check(length <= 264)?;
         let mut kept = Kept::new(&mut memory[0..length]);
@@ -119,7 +119,7 @@ fn kept_memory_of_every_length() -> Result<(), Fail> {
             let want = if point < count {
                 IN_BYTES[point % 5][i % 4]
             } else {
-                0xa5
+                0x5c
             };
             check_eq(*byte, want)?;
         }
