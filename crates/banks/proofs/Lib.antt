@@ -1,0 +1,4 @@
+pub mod Fronts
+pub mod Words
+pub mod Overlaid
+pub mod Drafts
