@@ -24,7 +24,7 @@ use Rattle.tables.specs.Values.{Sums, Rest, sheetValue}
 use Rattle.tables.specs.Passes.{onOne, onTwo, onThree, passed, passes}
 use Rattle.tables.proofs.Passing.{pass-sheet}
 use Rattle.tables.proofs.Standing.{accepts-table}
-use Rattle.folds.specs.Folds.{partCount, tooFewSlots, left, folded, Folds}
+use Rattle.folds.specs.Folds.{partCount, tooFewSlots, left, folded, spared, foldLeaves, Folds}
 
 none-some : {X : Type 0} {x : X} → _≡_ {A = Option X} None (Some x) → ⊥
 none-some e = let z : _≡_ {A = ℕ} 0 1 = cc in omega arith
@@ -128,3 +128,8 @@ module _ {V : Type 0} (s : Sums V) (a : Rest V) where
       ∙ ap (λ (b : Bool). Checked c rows b (leb c 64)) (accepts-table c rows T)
       ∙ ap (λ (b : Bool). Checked c rows true b) (le-leb c 64 few)
       ∙ ap left (table-passes c rows T)
+
+  -- the answer and the slots that stay, in one
+  pub leaves : (c : ℕ) (rows : List Row) (slots after : List V) (r : Result V Fault) → r ≡ folded s a c rows (length slots) → spared (length rows) r after ≡ spared (length rows) r slots → (r, spared (length rows) r after) ≡ foldLeaves s a c rows slots
+  leaves c rows slots after r e f =
+      ap (λ (l : List V). (r, l)) f ∙ ap (λ (x : Result V Fault). (x, spared (length rows) x slots)) e

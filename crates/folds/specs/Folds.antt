@@ -66,6 +66,11 @@ abbrev pub spared : {V : Type 0} → ℕ → Result V Fault → List V → List 
 spared n (Ok v) slots = drop n slots
 spared n (Err f) slots = slots
 
+-- the answer, and the slots that stay
+abbrev pub foldLeaves : {V : Type 0} → Sums V → Rest V → ℕ → List Row → List V → Result V Fault × List V
+foldLeaves s a c rows slots =
+    (folded s a c rows (length slots), spared (length rows) (folded s a c rows (length slots)) slots)
+
 -- of a table, within room, the answer is this measure of its tree
 abbrev pub Measures : {V : Type 0} → (Sheet → V) → ℕ → List Row → ℕ → Result V Fault → Type 0
 Measures f c rows slots r =

@@ -1,7 +1,7 @@
 // How deep the stack becomes when a table's code runs.
 ghost use mathlib.Core.Path.{_≡_};
 ghost use lib.ListN.{length};
-ghost use Rattle.folds.specs.Folds.{folded, spared, Measures};
+ghost use Rattle.folds.specs.Folds.{spared, foldLeaves, Measures};
 ghost use Rattle.folds.specs.StackDepths.{above, depthSums, depthRest, sheetDepth};
 use crate::algebra::Algebra;
 use crate::folding::fold;
@@ -85,8 +85,7 @@ pub impl Algebra for StackDepth as StackDepthAlgebra {
 }
 
 pub fn stack_depth(rows: &[Row], points: usize, slots: &mut [u32]) -> Result<u32, Fault>
-    ensures value { λ r. ⌜ r ≡ folded depthSums depthRest points (now (rows .entry)) (length (now (slots .entry))) ⌝ }
-    ensures slots { λ r. ⌜ spared (length (now (rows .entry))) r (now (slots .exit)) ≡ spared (length (now (rows .entry))) r (now (slots .entry)) ⌝ }
+    ensures value { λ r. ⌜ (r, spared (length (now (rows .entry))) r (now (slots .exit))) ≡ foldLeaves depthSums depthRest points (now (rows .entry)) (now (slots .entry)) ⌝ }
     ensures exact { λ r. ⌜ Measures sheetDepth points (now (rows .entry)) (length (now (slots .entry))) r ⌝ }
 {
     fold(rows, points, &StackDepth, slots)

@@ -7,7 +7,7 @@ ghost use Rattle.std.specs.declared.option.Option.the-variants.{Some};
 ghost use mathlib.Core.List.{_∷_};
 ghost use Rattle.tables.specs.Passes.{passed};
 ghost use Rattle.folds.specs.Stacks.{topFirst};
-ghost use Rattle.folds.specs.Folds.{partCount, folded, spared, Folds};
+ghost use Rattle.folds.specs.Folds.{partCount, spared, foldLeaves, Folds};
 use crate::algebra::Algebra;
 use crate::stack::Stack;
 use faults::Fault;
@@ -24,8 +24,7 @@ pub fn fold<A: Algebra>(
     algebra: &A,
     slots: &mut [A::Value],
 ) -> Result<A::Value, Fault>
-    ensures value { λ r. ⌜ r ≡ folded (A·Algebra .sums) (A·Algebra .rest) points (now (rows .entry)) (length (now (slots .entry))) ⌝ }
-    ensures slots { λ r. ⌜ spared (length (now (rows .entry))) r (now (slots .exit)) ≡ spared (length (now (rows .entry))) r (now (slots .entry)) ⌝ }
+    ensures value { λ r. ⌜ (r, spared (length (now (rows .entry))) r (now (slots .exit))) ≡ foldLeaves (A·Algebra .sums) (A·Algebra .rest) points (now (rows .entry)) (now (slots .entry)) ⌝ }
     ensures tree { λ r. ⌜ Folds (A·Algebra .sums) (A·Algebra .rest) points (now (rows .entry)) (length (now (slots .entry))) r ⌝ }
 {
     let n = rows.len();

@@ -1,7 +1,7 @@
 // How many instructions a table's code has.
 ghost use mathlib.Core.Path.{_≡_};
 ghost use lib.ListN.{length};
-ghost use Rattle.folds.specs.Folds.{folded, spared, Measures};
+ghost use Rattle.folds.specs.Folds.{spared, foldLeaves, Measures};
 ghost use Rattle.folds.specs.CodeLengths.{plus, lengthSums, lengthRest, sheetLength};
 use crate::algebra::Algebra;
 use crate::folding::fold;
@@ -85,8 +85,7 @@ pub impl Algebra for CodeLength as CodeLengthAlgebra {
 }
 
 pub fn code_length(rows: &[Row], points: usize, slots: &mut [u32]) -> Result<u32, Fault>
-    ensures value { λ r. ⌜ r ≡ folded lengthSums lengthRest points (now (rows .entry)) (length (now (slots .entry))) ⌝ }
-    ensures slots { λ r. ⌜ spared (length (now (rows .entry))) r (now (slots .exit)) ≡ spared (length (now (rows .entry))) r (now (slots .entry)) ⌝ }
+    ensures value { λ r. ⌜ (r, spared (length (now (rows .entry))) r (now (slots .exit))) ≡ foldLeaves lengthSums lengthRest points (now (rows .entry)) (now (slots .entry)) ⌝ }
     ensures exact { λ r. ⌜ Measures sheetLength points (now (rows .entry)) (length (now (slots .entry))) r ⌝ }
 {
     fold(rows, points, &CodeLength, slots)

@@ -1,7 +1,7 @@
 // Which points a table uses, as 64 bits: bit p for point p.
 ghost use mathlib.Core.Path.{_≡_};
 ghost use lib.ListN.{length};
-ghost use Rattle.folds.specs.Folds.{folded, spared, Measures};
+ghost use Rattle.folds.specs.Folds.{spared, foldLeaves, Measures};
 ghost use Rattle.folds.specs.PointSets.{bitOf, pointSums, pointRest, sheetPoints};
 use crate::algebra::Algebra;
 use crate::folding::fold;
@@ -84,8 +84,7 @@ pub impl Algebra for PointsUsed as PointsUsedAlgebra {
 }
 
 pub fn points_used(rows: &[Row], points: usize, slots: &mut [u64]) -> Result<u64, Fault>
-    ensures value { λ r. ⌜ r ≡ folded pointSums pointRest points (now (rows .entry)) (length (now (slots .entry))) ⌝ }
-    ensures slots { λ r. ⌜ spared (length (now (rows .entry))) r (now (slots .exit)) ≡ spared (length (now (rows .entry))) r (now (slots .entry)) ⌝ }
+    ensures value { λ r. ⌜ (r, spared (length (now (rows .entry))) r (now (slots .exit))) ≡ foldLeaves pointSums pointRest points (now (rows .entry)) (now (slots .entry)) ⌝ }
     ensures exact { λ r. ⌜ Measures sheetPoints points (now (rows .entry)) (length (now (slots .entry))) r ⌝ }
 {
     fold(rows, points, &PointsUsed, slots)

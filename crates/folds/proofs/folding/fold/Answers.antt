@@ -12,7 +12,7 @@ use Rattle.tables.specs.Passes.{passes}
 use Rattle.folds.specs.Stacks.{topFirst}
 use Rattle.folds.specs.Folds.{tooFewSlots}
 use Rattle.folds.proofs.Tops.{top-none, length-top}
-use Rattle.folds.proofs.FoldLaws.{enough, onward, at-end, table-passes, refused, answered, folds}
+use Rattle.folds.proofs.FoldLaws.{enough, onward, at-end, table-passes, refused, answered, folds, leaves}
 use Rattle.folds.proofs.folding.fold.Needs as need
 
 pub returns-in-Err : need.returns-in-Err
@@ -22,7 +22,10 @@ returns-in-Err g c =
     let rows = c .args .rows .now in
     let n = length (c .args .slots .now) in
     let v = refused s a (c .args .points) rows n (c .in-Err .fault) (search needs) (search needs) (c .in-Err .ensures tt .value) in
-    record { value = v; slots = search needs; tree = folds s a (c .args .points) rows n _ v }
+    record {
+      value = leaves s a (c .args .points) rows (c .args .slots .now) _ (Err (c .in-Err .fault)) v (search needs);
+      tree = folds s a (c .args .points) rows n _ v;
+    }
 
 pub loop-i-holds : need.loop-i-holds
 loop-i-holds g c =
@@ -96,10 +99,9 @@ returns g c =
     let v = sheetValue s a (T .tree) in
     let same : c .peek .result ≡ v = c .peek .ensures v ∙ ap (λ (l : List _). getD l 0 v) one in
     let value = answered s a (c .args .points) rows _ n (c .peek .result) (search needs) (search needs) (c .in-Ok .ensures tt .value) (p ∙ ap (λ (x : _). Some (x ∷ [])) (sym same)) in
+    let names = inv .4 ∙ c .new-stack .ensures .lender in
+    let rest = ap (drop (length rows)) {y = c .loop-i .stack .slots .now} (search needs) ∙ inv .3 ∙ ap (drop (length rows)) (c .new-stack .ensures .slots) in
     record {
-      value = value;
-      slots =
-          let names = inv .4 ∙ c .new-stack .ensures .lender in
-          ap (drop (length rows)) {y = c .loop-i .stack .slots .now} (search needs) ∙ inv .3 ∙ ap (drop (length rows)) (c .new-stack .ensures .slots);
+      value = leaves s a (c .args .points) rows (c .args .slots .now) _ (Ok (c .peek .result)) value rest;
       tree = folds s a (c .args .points) rows n _ value;
     }

@@ -6,6 +6,5 @@ pub returns : need.returns
 returns c =
     record {
       value = c .fold .ensures .value;
-      slots = c .fold .ensures .slots;
       exact = exact (c .args .points) (c .args .rows .now) (length (c .args .slots .now)) (c .fold .result) (c .fold .ensures .tree);
     }
