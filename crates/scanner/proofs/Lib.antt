@@ -1,0 +1,4 @@
+pub mod LookSteps
+pub mod NextToken
+pub mod RunSteps
+pub mod Standing

@@ -1,1 +1,5 @@
 pub mod Words
+pub mod Tokens
+pub mod Runs
+pub mod Steps
+pub mod Looks
