@@ -1,3 +1,4 @@
+pub mod ClueLaws
 pub mod LookSteps
 pub mod NextToken
 pub mod RunSteps

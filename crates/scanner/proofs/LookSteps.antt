@@ -29,6 +29,14 @@ record Turn (text : List ℕ) (p : Position) (t : Token) (q : Position) : Type 0
   seen : (d : ℕ) → clueAhead text (tokensAt text (p .at)) d ≡ seenBy (sightOf text t) d (clueAhead text (tokensAt text (q .at)))
   moved : (t .kind ≡ End → ⊥) → (p .at < q .at) × (q .at ≤ length text)
 
+-- behind a token at p the look goes on from q, with n brackets open in place of d
+pub record Goes (text : List ℕ) (p : Position) (d : ℕ) (q : Position) (n : ℕ) : Type 0 where
+  pub few : n ≤ length text
+  pub deep : n ≤ q .at
+  pub moved : p .at < q .at
+  pub within : q .at ≤ length text
+  pub same : clueAhead text (tokensAt text (q .at)) n ≡ clueAhead text (tokensAt text (p .at)) d
+
 turn : (text : List ℕ) (p : Position) → Turn text p (tokenAt text (p .at)) (record { at = tokenAt text (p .at) .end })
 turn text p =
     let t : Token = tokenAt text (p .at) in
@@ -46,11 +54,17 @@ module _ (text : List ℕ) (p : Position) {t : Token} {q : Position} (s : Sight)
   seen-by d = turned .seen d ∙ sym (ap (λ (s : Sight). seenBy s d (clueAhead text (tokensAt text (q .at)))) is)
 
   -- the look goes on with n brackets open
-  pub goes-on : (d n : ℕ) → (s ≡ Stops → ⊥) → ((rest : ℕ → Bool) → seenBy s d rest ≡ rest n) → n ≤ d + 1 → d ≤ p .at → (n ≤ length text) × (n ≤ q .at) × (p .at < q .at) × (q .at ≤ length text) × (clueAhead text (tokensAt text (q .at)) n ≡ clueAhead text (tokensAt text (p .at)) d)
+  pub goes-on : (d n : ℕ) → (s ≡ Stops → ⊥) → ((rest : ℕ → Bool) → seenBy s d rest ≡ rest n) → n ≤ d + 1 → d ≤ p .at → Goes text p d q n
   goes-on d n on rests few deep =
       let real : t .kind ≡ End → ⊥ = λ k. on (is ∙ ap (λ (k : Kind). kindSight k (spelled text t)) k) in
       let m = turned .moved real in
-      (omega (arith, m .0, m .1), omega (arith, m .0), m .0, m .1, sym (seen-by d ∙ rests (clueAhead text (tokensAt text (q .at)))))
+      record {
+        few = omega (arith, m .0, m .1);
+        deep = omega (arith, m .0);
+        moved = m .0;
+        within = m .1;
+        same = sym (seen-by d ∙ rests (clueAhead text (tokensAt text (q .at))));
+      }
 
   -- the look ends with an answer
   pub answers : (d : ℕ) (b : Bool) → ((rest : ℕ → Bool) → seenBy s d rest ≡ b) → b ≡ clueAhead text (tokensAt text (p .at)) d

@@ -1,4 +1,5 @@
 // From bytes to the pieces that names and sheets are made of: words, and the tokens of a sheet.
+mod cursor;
 mod look;
 mod position;
 mod run;
@@ -6,6 +7,7 @@ mod scan;
 mod token;
 mod word;
 
+pub use cursor::Cursor;
 pub use position::Position;
 pub use position::PositionDebug;
 pub use position::PositionPartialEq;
@@ -23,3 +25,6 @@ pub use token::Token;
 pub use token::TokenDebug;
 pub use token::TokenPartialEq;
 pub use word::is_word;
+
+#[cfg(test)]
+mod tests;

@@ -1,6 +1,8 @@
 // The look ahead: whether the bracket just read opens a condition.
 ghost use mathlib.Core.Path.{_≡_};
 ghost use Rattle.std.specs.shelf.Text.{sameBytes};
+ghost use Rattle.scanner.specs.Tokens.{tokensAt};
+ghost use Rattle.scanner.specs.Clues.{OpensCondition};
 ghost use Rattle.scanner.specs.Looks.{lookFrom, isTruth, symbolSight, sightOf};
 use crate::position::Position;
 use crate::token::Kind;
@@ -40,7 +42,8 @@ impl Drop for Back<'_> {
 impl Position {
     // The position is just behind a `(`. Whether a clue stands before its partner; the position stays.
     pub fn opens_condition(&mut self, text: &[u8]) -> bool
-        ensures { λ r. ⌜ (r, now (self .exit)) ≡ lookFrom (now (text .entry)) (now (self .entry)) ⌝ }
+        ensures value { λ r. ⌜ (r, now (self .exit)) ≡ lookFrom (now (text .entry)) (now (self .entry)) ⌝ }
+        ensures law { λ r. ⌜ OpensCondition (now (text .entry)) (tokensAt (now (text .entry)) (now (self .entry) .at)) r ⌝ }
     {
         let old = *self;
         let guard = Back {
