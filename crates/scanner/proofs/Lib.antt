@@ -2,4 +2,6 @@ pub mod ClueLaws
 pub mod LookSteps
 pub mod NextToken
 pub mod RunSteps
+pub mod SignSpelling
 pub mod Standing
+pub mod TokenLaws

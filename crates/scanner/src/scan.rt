@@ -3,6 +3,7 @@ ghost use mathlib.Core.Path.{_≡_};
 ghost use Prim.Native.Nat.{_<_};
 ghost use lib.ListN.{length, drop};
 ghost use Rattle.scanner.specs.Tokens.{tokenAt, Placed, standing, signStanding, pairFront, pairSign, singleSign};
+ghost use Rattle.scanner.specs.Spelling.{Found};
 use crate::run::Class;
 use crate::run::run_end;
 use crate::token::Comparison;
@@ -15,6 +16,7 @@ use crate::word::begins_word;
 pub fn token_at(text: &[u8], at: usize) -> Token
     ensures value { λ r. ⌜ r ≡ tokenAt (now (text .entry)) at ⌝ }
     ensures placed { λ r. ⌜ Placed (now (text .entry)) at r ⌝ }
+    ensures found { λ r. ⌜ Found (now (text .entry)) at r ⌝ }
 {
     let start = run_end(text, at, Class::Blank);
     if start < text.len() {
