@@ -1,13 +1,12 @@
 -- The look finds a clue exactly where one stands before the partner.
-use mathlib.Core.Path.{_≡_, refl, sym, ap, subst, _∙_}
-use mathlib.Core.Bool.{Bool, true, false}
+use mathlib.Core.Path.{_≡_, refl, sym, ap, _∙_}
+use mathlib.Core.Bool.{Bool, true}
 use mathlib.Core.List.{List, [], _∷_, _++_}
 use Prim.Native.Nat.{ℕ, zero, suc, _+_, _≤_}
 use native.Mathlib.Omega.{arith}
 use lib.ListN.{take}
 use Rattle.std.specs.shelf.Lists.{All}
 use Rattle.std.proofs.shelf.Tests.{false≢true}
-use Rattle.scanner.specs.Tokens.{tokensAt}
 use Rattle.scanner.specs.Looks.{sightOf, seenBy, clueAhead}
 use Rattle.scanner.specs.Clues.{opensOne, closesOne, opened, closed, ClueStands, OpensCondition}
 use Rattle.scanner.specs.declared.token.Token.{Token}

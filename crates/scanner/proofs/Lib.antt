@@ -1,4 +1,5 @@
 pub mod ClueLaws
+mod Examples
 pub mod LookSteps
 pub mod NextToken
 pub mod RunSteps

@@ -1,18 +1,18 @@
 -- The look, one token on.
 use mathlib.Core.Path.{_≡_, refl, sym, ap, subst, _∙_}
-use mathlib.Core.Bool.{Bool, true, false, cond}
-use mathlib.Core.List.{List, [], _∷_}
+use mathlib.Core.Bool.{Bool, false}
+use mathlib.Core.List.{List}
 use Prim.Native.Nat.{ℕ, zero, suc, _+_, _-_, _≤_, _<_}
 use native.Mathlib.Omega.{arith}
 use lib.ListN.{length}
-use Rattle.scanner.specs.Tokens.{tokensAt, tokenAt, after, spelled, Placed}
+use Rattle.scanner.specs.Tokens.{tokensAt, tokenAt, after, spelled}
 use Rattle.scanner.specs.Steps.{nextOf}
 use Rattle.scanner.specs.Looks.{kindSight, sightOf, seenBy, clueAhead, lookFrom}
 use Rattle.scanner.specs.declared.token.Kind.{Kind}
 use Rattle.scanner.specs.declared.token.Kind.the-variants.{Word, Number, Sign, End, Stray}
 use Rattle.scanner.specs.declared.token.Token.{Token}
 use Rattle.scanner.specs.declared.look.Sight.{Sight}
-use Rattle.scanner.specs.declared.look.Sight.the-variants.{Clue, Opens, Closes, Stops, Passes}
+use Rattle.scanner.specs.declared.look.Sight.the-variants.{Opens, Closes, Stops, Passes}
 use Rattle.scanner.specs.declared.position.Position.{Position}
 use Rattle.scanner.proofs.NextToken.{next-token, token-placed}
 

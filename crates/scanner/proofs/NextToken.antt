@@ -3,7 +3,7 @@
 use mathlib.Core.Path.{_≡_, refl, sym, ap, subst, _∙_}
 use mathlib.Core.Bool.{Bool, true, false}
 use mathlib.Core.List.{List, [], _∷_}
-use Prim.Native.Nat.{ℕ, zero, suc, _+_, _-_, _≤_, _<_}
+use Prim.Native.Nat.{ℕ, zero, suc, _+_, _-_, _≤_}
 use native.Mathlib.Omega.{arith}
 use lib.ListN.{length, drop}
 use Rattle.std.proofs.shelf.Lists.{drop-drop, length-drop}
@@ -12,10 +12,9 @@ use Rattle.std.specs.Text.{asciiDigit}
 use Rattle.std.specs.declared.option.Option.{Option}
 use Rattle.std.specs.declared.option.Option.the-variants.{Some, None}
 use Rattle.scanner.specs.Words.{beginsWord, goesOn}
-use Rattle.scanner.specs.Tokens.{isBlank, runOf, token, after, front, signFront, signOr, pairSign, singleSign, standing, tell, tokensFrom, tokensAt, tokenAt, firstOf, Placed}
+use Rattle.scanner.specs.Tokens.{isBlank, runOf, after, front, signFront, signOr, pairSign, singleSign, standing, tell, tokensFrom, tokensAt, tokenAt, firstOf, Placed}
 use Rattle.scanner.specs.declared.token.Symbol.{Symbol}
 use Rattle.scanner.specs.declared.token.Kind.{Kind}
-use Rattle.scanner.specs.declared.token.Kind.the-variants.{Number, Word}
 use Rattle.scanner.specs.declared.token.Token.{Token}
 use Rattle.scanner.proofs.RunSteps.{run-on, run-off, run-fits, run-whole}
 

@@ -1,7 +1,7 @@
 -- The token that stands at a place, read off the bytes there.
-use mathlib.Core.Path.{_≡_, refl, sym, ap, _∙_}
-use mathlib.Core.Bool.{Bool, true, false}
-use mathlib.Core.List.{List, [], _∷_}
+use mathlib.Core.Path.{_≡_, sym, ap, _∙_}
+use mathlib.Core.Bool.{true, false}
+use mathlib.Core.List.{List, _∷_}
 use Prim.Native.Nat.{ℕ, suc, _+_, _≤_, _<_}
 use native.Mathlib.Omega.{arith}
 use lib.ListN.{length, getD, drop}
@@ -9,9 +9,9 @@ use Rattle.std.proofs.shelf.Lists.{at-drop-more, at-drop-all}
 use Rattle.std.proofs.shelf.Tests.{cond-true, cond-false}
 use Rattle.std.specs.Text.{asciiDigit}
 use Rattle.std.specs.declared.option.Option.{Option}
-use Rattle.std.specs.declared.option.Option.the-variants.{Some, None}
+use Rattle.std.specs.declared.option.Option.the-variants.{None}
 use Rattle.scanner.specs.Words.{beginsWord, goesOn}
-use Rattle.scanner.specs.Tokens.{runOf, token, standing, signStanding, front, signFront, signOr, pairFront, pairSign, singleSign}
+use Rattle.scanner.specs.Tokens.{runOf, token, standing, signStanding, front, signOr, pairFront, pairSign, singleSign}
 use Rattle.scanner.specs.declared.token.Symbol.{Symbol}
 use Rattle.scanner.specs.declared.token.Kind.{Kind}
 use Rattle.scanner.specs.declared.token.Kind.the-variants.{Word, Number}

@@ -6,7 +6,7 @@ use Prim.Native.Nat.{ℕ, zero, suc, _+_, _-_, _≤_}
 use native.Mathlib.Omega.{arith}
 use lib.ListN.{length, take, drop}
 use Rattle.std.proofs.shelf.Lists.{drop-drop}
-use Rattle.std.proofs.shelf.Tests.{and-parts, and-from, cond-both, both-ways, false≢true}
+use Rattle.std.proofs.shelf.Tests.{and-parts, and-from, cond-both, both-ways}
 use Rattle.std.proofs.shelf.Ways.{tells}
 use Rattle.std.specs.Text.{asciiDigit}
 use Rattle.std.specs.shelf.Lists.{All}
@@ -18,8 +18,7 @@ use Rattle.scanner.specs.Spelling.{allDigits, Spells, NoLonger, Fronts, Found}
 use Rattle.scanner.specs.declared.token.Symbol.{Symbol}
 use Rattle.scanner.specs.declared.token.Kind.{Kind}
 use Rattle.scanner.specs.declared.token.Kind.the-variants.{Word, Number, Sign, End, Stray}
-use Rattle.scanner.specs.declared.token.Token.{Token}
-use Rattle.scanner.proofs.RunSteps.{run-on, run-off, run-whole}
+use Rattle.scanner.proofs.RunSteps.{run-on, run-whole}
 use Rattle.scanner.proofs.SignSpelling.{sign-apart, pair-ok, PairOk, single-ok, SingleOk, sign-back}
 use Rattle.scanner.proofs.NextToken.{begin, found, found-is}
 

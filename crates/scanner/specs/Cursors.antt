@@ -2,7 +2,7 @@
 use mathlib.Core.Bool.{Bool}
 use mathlib.Core.List.{List}
 use Prim.Native.Nat.{ℕ}
-use Rattle.scanner.specs.Tokens.{tokensAt, tokenAt}
+use Rattle.scanner.specs.Tokens.{tokensAt, tokenAt, Placed}
 use Rattle.scanner.specs.Steps.{nextOf}
 use Rattle.scanner.specs.Looks.{lookFrom}
 use Rattle.scanner.specs.Clues.{OpensCondition}
@@ -30,6 +30,9 @@ nextHeld h =
 abbrev pub lookHeld : Held → Bool × Held
 lookHeld h =
     (lookFrom (h .text) (h .position) .0, record { text = h .text; position = lookFrom (h .text) (h .position) .1 })
+
+abbrev pub PlacedLaw : Held → Token → Type 0
+PlacedLaw h t = Placed (h .text) (h .position .at) t
 
 abbrev pub LookLaw : Held → Bool → Type 0
 LookLaw h r = OpensCondition (h .text) (tokensAt (h .text) (h .position .at)) r

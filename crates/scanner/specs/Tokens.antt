@@ -92,6 +92,7 @@ abbrev pub standing : ℕ → List ℕ → Token
 standing s [] = token End s s
 standing s (b ∷ bs) = token (front b bs .0) s (suc (s + front b bs .1))
 
+-- the same, where a byte begins neither a number nor a word
 abbrev pub signStanding : ℕ → List ℕ → Token
 signStanding s [] = token End s s
 signStanding s (b ∷ bs) = token (signFront b bs .0) s (suc (s + signFront b bs .1))

@@ -1,6 +1,6 @@
 // A cursor: a sheet's bytes and where reading stands in them.
 ghost use mathlib.Core.Path.{_≡_};
-ghost use Rattle.scanner.specs.Cursors.{held, atStart, peekHeld, nextHeld, lookHeld, LookLaw};
+ghost use Rattle.scanner.specs.Cursors.{held, atStart, peekHeld, nextHeld, lookHeld, PlacedLaw, LookLaw};
 use crate::position::Position;
 use crate::token::Token;
 
@@ -22,14 +22,16 @@ impl<'a> Cursor<'a> {
 
     // The token at the position or after it.
     pub fn peek(&self) -> Token
-        ensures { λ r. ⌜ r ≡ peekHeld (held (now (self .entry))) ⌝ }
+        ensures value { λ r. ⌜ r ≡ peekHeld (held (now (self .entry))) ⌝ }
+        ensures placed { λ r. ⌜ PlacedLaw (held (now (self .entry))) r ⌝ }
     {
         self.position.peek(self.text)
     }
 
     // The same, and the position moves behind it.
     pub fn next(&mut self) -> Token
-        ensures { λ r. ⌜ (r, held (now (self .exit))) ≡ nextHeld (held (now (self .entry))) ⌝ }
+        ensures value { λ r. ⌜ (r, held (now (self .exit))) ≡ nextHeld (held (now (self .entry))) ⌝ }
+        ensures placed { λ r. ⌜ PlacedLaw (held (now (self .entry))) r ⌝ }
     {
         let text = self.text;
         self.position.next(text)
