@@ -5,7 +5,7 @@ use mathlib.Core.List.{[], _∷_}
 use lib.Chars.{codes}
 use Rattle.scanner.specs.Tokens.{token, tokens, tokensAt}
 use Rattle.scanner.specs.Looks.{clueAhead}
-use Rattle.scanner.specs.declared.token.Comparison.the-variants.{AtMost, Equal}
+use Rattle.scanner.specs.declared.token.ComparisonSign.the-variants.{LessOrEqual, Equal}
 use Rattle.scanner.specs.declared.token.Symbol.the-variants.{Becomes, Compare}
 use Rattle.scanner.specs.declared.token.Kind.the-variants.{Word, Number, Sign, End, Stray}
 
@@ -13,7 +13,7 @@ number-then-word : tokens (codes " 12ab") ≡ token Number 1 3 ∷ token Word 3 
 unfolding tokensAt
 number-then-word = refl
 
-longer-sign-first : tokens (codes "<====") ≡ token (Sign (Compare AtMost)) 0 2 ∷ token (Sign (Compare Equal)) 2 4 ∷ token (Sign Becomes) 4 5 ∷ token End 5 5 ∷ []
+longer-sign-first : tokens (codes "<====") ≡ token (Sign (Compare LessOrEqual)) 0 2 ∷ token (Sign (Compare Equal)) 2 4 ∷ token (Sign Becomes) 4 5 ∷ token End 5 5 ∷ []
 unfolding tokensAt
 longer-sign-first = refl
 

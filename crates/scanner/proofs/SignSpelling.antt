@@ -15,7 +15,7 @@ use Rattle.std.specs.declared.option.Option.the-variants.{Some, None}
 use Rattle.scanner.specs.Words.{beginsWord}
 use Rattle.scanner.specs.Tokens.{pairSign, singleSign, pairFront, signOr, signFront}
 use Rattle.scanner.specs.Spelling.{spelling}
-use Rattle.scanner.specs.declared.token.Comparison.the-variants.{Less, AtMost, More, AtLeast, Equal, Unequal}
+use Rattle.scanner.specs.declared.token.ComparisonSign.the-variants.{Less, LessOrEqual, Greater, GreaterOrEqual, Equal, NotEqual}
 use Rattle.scanner.specs.declared.token.Symbol.{Symbol}
 use Rattle.scanner.specs.declared.token.Symbol.the-variants.{OpenBlock, CloseBlock, Open, Close, Semicolon, Becomes, Plus, Minus, Times, Over, Not, And, Or, Compare}
 use Rattle.scanner.specs.declared.token.Kind.{Kind}
@@ -40,11 +40,11 @@ apart Not = (refl, refl)
 apart And = (refl, refl)
 apart Or = (refl, refl)
 apart (Compare Less) = (refl, refl)
-apart (Compare AtMost) = (refl, refl)
-apart (Compare More) = (refl, refl)
-apart (Compare AtLeast) = (refl, refl)
+apart (Compare LessOrEqual) = (refl, refl)
+apart (Compare Greater) = (refl, refl)
+apart (Compare GreaterOrEqual) = (refl, refl)
 apart (Compare Equal) = (refl, refl)
-apart (Compare Unequal) = (refl, refl)
+apart (Compare NotEqual) = (refl, refl)
 
 pub sign-apart : (s : Symbol) (b : ℕ) (w : List ℕ) → b ∷ w ≡ spelling s → (asciiDigit b ≡ false) × (beginsWord b ≡ false)
 sign-apart s b w e = subst Apart (sym (ap (λ (l : List ℕ). getD l 0 0) e)) (apart s)
@@ -148,8 +148,8 @@ sign-back Not = single-back 33 Not refl
 sign-back And = pair-back 38 38 And refl
 sign-back Or = pair-back 124 124 Or refl
 sign-back (Compare Less) = single-back 60 (Compare Less) refl
-sign-back (Compare AtMost) = pair-back 60 61 (Compare AtMost) refl
-sign-back (Compare More) = single-back 62 (Compare More) refl
-sign-back (Compare AtLeast) = pair-back 62 61 (Compare AtLeast) refl
+sign-back (Compare LessOrEqual) = pair-back 60 61 (Compare LessOrEqual) refl
+sign-back (Compare Greater) = single-back 62 (Compare Greater) refl
+sign-back (Compare GreaterOrEqual) = pair-back 62 61 (Compare GreaterOrEqual) refl
 sign-back (Compare Equal) = pair-back 61 61 (Compare Equal) refl
-sign-back (Compare Unequal) = pair-back 33 61 (Compare Unequal) refl
+sign-back (Compare NotEqual) = pair-back 33 61 (Compare NotEqual) refl

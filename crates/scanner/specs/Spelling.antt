@@ -11,21 +11,21 @@ use Rattle.std.specs.Text.{asciiDigit}
 use Rattle.std.specs.shelf.Lists.{All}
 use Rattle.scanner.specs.Words.{isWord}
 use Rattle.scanner.specs.Tokens.{isBlank}
-use Rattle.scanner.specs.declared.token.Comparison.{Comparison}
-use Rattle.scanner.specs.declared.token.Comparison.the-variants.{Less, AtMost, More, AtLeast, Equal, Unequal}
+use Rattle.scanner.specs.declared.token.ComparisonSign.{ComparisonSign}
+use Rattle.scanner.specs.declared.token.ComparisonSign.the-variants.{Less, LessOrEqual, Greater, GreaterOrEqual, Equal, NotEqual}
 use Rattle.scanner.specs.declared.token.Symbol.{Symbol}
 use Rattle.scanner.specs.declared.token.Symbol.the-variants.{OpenBlock, CloseBlock, Open, Close, Semicolon, Becomes, Plus, Minus, Times, Over, Not, And, Or, Compare}
 use Rattle.scanner.specs.declared.token.Kind.{Kind}
 use Rattle.scanner.specs.declared.token.Kind.the-variants.{Word, Number, Sign, End, Stray}
 use Rattle.scanner.specs.declared.token.Token.{Token}
 
-abbrev pub comparisonSpelling : Comparison → List ℕ
+abbrev pub comparisonSpelling : ComparisonSign → List ℕ
 comparisonSpelling Less = codes "<"
-comparisonSpelling AtMost = codes "<="
-comparisonSpelling More = codes ">"
-comparisonSpelling AtLeast = codes ">="
+comparisonSpelling LessOrEqual = codes "<="
+comparisonSpelling Greater = codes ">"
+comparisonSpelling GreaterOrEqual = codes ">="
 comparisonSpelling Equal = codes "=="
-comparisonSpelling Unequal = codes "!="
+comparisonSpelling NotEqual = codes "!="
 
 abbrev pub spelling : Symbol → List ℕ
 spelling OpenBlock = codes "{"

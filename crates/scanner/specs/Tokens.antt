@@ -12,7 +12,7 @@ use Rattle.std.specs.Text.{asciiDigit}
 use Rattle.std.specs.declared.option.Option.{Option}
 use Rattle.std.specs.declared.option.Option.the-variants.{Some, None}
 use Rattle.scanner.specs.Words.{beginsWord, goesOn}
-use Rattle.scanner.specs.declared.token.Comparison.the-variants.{Less, AtMost, More, AtLeast, Equal, Unequal}
+use Rattle.scanner.specs.declared.token.ComparisonSign.the-variants.{Less, LessOrEqual, Greater, GreaterOrEqual, Equal, NotEqual}
 use Rattle.scanner.specs.declared.token.Symbol.{Symbol}
 use Rattle.scanner.specs.declared.token.Symbol.the-variants.{OpenBlock, CloseBlock, Open, Close, Semicolon, Becomes, Plus, Minus, Times, Over, Not, And, Or, Compare}
 use Rattle.scanner.specs.declared.token.Kind.{Kind}
@@ -31,10 +31,10 @@ runOf test (b ∷ bs) = cond (test b) (suc (runOf test bs)) 0
 -- <= >= == != && ||
 abbrev pub pairSign : ℕ → ℕ → Option Symbol
 pairSign b c =
-    cond (eqb b 60 && eqb c 61) (Some (Compare AtMost))
-    (cond (eqb b 62 && eqb c 61) (Some (Compare AtLeast))
+    cond (eqb b 60 && eqb c 61) (Some (Compare LessOrEqual))
+    (cond (eqb b 62 && eqb c 61) (Some (Compare GreaterOrEqual))
     (cond (eqb b 61 && eqb c 61) (Some (Compare Equal))
-    (cond (eqb b 33 && eqb c 61) (Some (Compare Unequal))
+    (cond (eqb b 33 && eqb c 61) (Some (Compare NotEqual))
     (cond (eqb b 38 && eqb c 38) (Some And)
     (cond (eqb b 124 && eqb c 124) (Some Or) None)))))
 
@@ -59,7 +59,7 @@ singleSign b =
     (cond (eqb b 47) (Sign Over)
     (cond (eqb b 33) (Sign Not)
     (cond (eqb b 60) (Sign (Compare Less))
-    (cond (eqb b 62) (Sign (Compare More)) Stray))))))))))))
+    (cond (eqb b 62) (Sign (Compare Greater)) Stray))))))))))))
 
 abbrev pub signOr : Option Symbol → Kind → Kind × ℕ
 signOr (Some s) short = (Sign s, 1)

@@ -6,7 +6,7 @@ ghost use Rattle.scanner.specs.Tokens.{tokenAt, Placed, standing, signStanding
 ghost use Rattle.scanner.specs.Spelling.{Found};
 use crate::run::Class;
 use crate::run::run_end;
-use crate::token::Comparison;
+use crate::token::ComparisonSign;
 use crate::token::Kind;
 use crate::token::Symbol;
 use crate::token::Token;
@@ -87,10 +87,10 @@ fn pair_sign(b: u8, c: u8) -> Option<Symbol>
     ensures { λ r. ⌜ r ≡ pairSign b c ⌝ }
 {
     match (b, c) {
-        (b'<', b'=') => Some(Symbol::Compare(Comparison::AtMost)),
-        (b'>', b'=') => Some(Symbol::Compare(Comparison::AtLeast)),
-        (b'=', b'=') => Some(Symbol::Compare(Comparison::Equal)),
-        (b'!', b'=') => Some(Symbol::Compare(Comparison::Unequal)),
+        (b'<', b'=') => Some(Symbol::Compare(ComparisonSign::LessOrEqual)),
+        (b'>', b'=') => Some(Symbol::Compare(ComparisonSign::GreaterOrEqual)),
+        (b'=', b'=') => Some(Symbol::Compare(ComparisonSign::Equal)),
+        (b'!', b'=') => Some(Symbol::Compare(ComparisonSign::NotEqual)),
         (b'&', b'&') => Some(Symbol::And),
         (b'|', b'|') => Some(Symbol::Or),
         _ => None,
@@ -112,8 +112,8 @@ fn single_sign(b: u8) -> Kind
         b'*' => Kind::Sign(Symbol::Times),
         b'/' => Kind::Sign(Symbol::Over),
         b'!' => Kind::Sign(Symbol::Not),
-        b'<' => Kind::Sign(Symbol::Compare(Comparison::Less)),
-        b'>' => Kind::Sign(Symbol::Compare(Comparison::More)),
+        b'<' => Kind::Sign(Symbol::Compare(ComparisonSign::Less)),
+        b'>' => Kind::Sign(Symbol::Compare(ComparisonSign::Greater)),
         _ => Kind::Stray,
     }
 }

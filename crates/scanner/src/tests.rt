@@ -4,7 +4,7 @@ use crate::position::Position;
 use crate::position::PositionDebug;
 use crate::position::PositionPartialEq;
 use crate::scan::token_at;
-use crate::token::Comparison;
+use crate::token::ComparisonSign;
 use crate::token::Kind;
 use crate::token::Symbol;
 use crate::token::Token;
@@ -13,10 +13,10 @@ use crate::token::TokenPartialEq;
 use std::test::*;
 
 const PAIRS: [(u8, u8, Symbol); 6] = [
-    (b'<', b'=', Symbol::Compare(Comparison::AtMost)),
-    (b'>', b'=', Symbol::Compare(Comparison::AtLeast)),
-    (b'=', b'=', Symbol::Compare(Comparison::Equal)),
-    (b'!', b'=', Symbol::Compare(Comparison::Unequal)),
+    (b'<', b'=', Symbol::Compare(ComparisonSign::LessOrEqual)),
+    (b'>', b'=', Symbol::Compare(ComparisonSign::GreaterOrEqual)),
+    (b'=', b'=', Symbol::Compare(ComparisonSign::Equal)),
+    (b'!', b'=', Symbol::Compare(ComparisonSign::NotEqual)),
     (b'&', b'&', Symbol::And),
     (b'|', b'|', Symbol::Or),
 ];
@@ -55,8 +55,8 @@ fn each_sign_of_one_byte() -> Result<(), Fail> {
         (b'*', Symbol::Times),
         (b'/', Symbol::Over),
         (b'!', Symbol::Not),
-        (b'<', Symbol::Compare(Comparison::Less)),
-        (b'>', Symbol::Compare(Comparison::More)),
+        (b'<', Symbol::Compare(ComparisonSign::Less)),
+        (b'>', Symbol::Compare(ComparisonSign::Greater)),
     ];
     for (byte, symbol) in signs {
         for behind in [b' ', b'a', b'<', b'0'] {
@@ -81,7 +81,7 @@ fn tokens_and_their_places() -> Result<(), Fail> {
         (
             "<==",
             0,
-            Kind::Sign(Symbol::Compare(Comparison::AtMost)),
+            Kind::Sign(Symbol::Compare(ComparisonSign::LessOrEqual)),
             0,
             2,
         ),
@@ -89,7 +89,7 @@ fn tokens_and_their_places() -> Result<(), Fail> {
         (
             "< =",
             0,
-            Kind::Sign(Symbol::Compare(Comparison::Less)),
+            Kind::Sign(Symbol::Compare(ComparisonSign::Less)),
             0,
             1,
         ),

@@ -3,13 +3,13 @@ ghost use mathlib.Core.Path.{_≡_};
 ghost use Rattle.scanner.specs.Tokens.{spelled};
 
 #[derive(Clone, Copy, PartialEq, Eq, Debug)]
-pub enum Comparison {
+pub enum ComparisonSign {
     Less,
-    AtMost,
-    More,
-    AtLeast,
+    LessOrEqual,
+    Greater,
+    GreaterOrEqual,
     Equal,
-    Unequal,
+    NotEqual,
 }
 
 // Which sign it is.
@@ -28,7 +28,7 @@ pub enum Symbol {
     Not,
     And,
     Or,
-    Compare(Comparison),
+    Compare(ComparisonSign),
 }
 
 #[derive(Clone, Copy, PartialEq, Eq, Debug)]
