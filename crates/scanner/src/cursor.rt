@@ -4,7 +4,7 @@ ghost use Rattle.scanner.specs.Cursors.{held, atStart, peekHeld, nextHeld, loo
 use crate::position::Position;
 use crate::token::Token;
 
-#[derive(Clone, Copy)]
+#[derive(Drop)]
 pub struct Cursor<'a> {
     pub text: &'a [u8],
     pub position: Position,

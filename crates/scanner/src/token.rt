@@ -1,5 +1,7 @@
 // Tokens: the words, numbers and signs of a sheet. A token is a place in the sheet's bytes, so nothing is copied.
 ghost use mathlib.Core.Path.{_≡_};
+ghost use Prim.Native.Nat.{min};
+ghost use lib.ListN.{length};
 ghost use Rattle.scanner.specs.Tokens.{spelled};
 
 #[derive(Clone, Copy, PartialEq, Eq, Debug)]
@@ -56,8 +58,15 @@ impl Token {
     pub fn bytes(self, text: &[u8]) -> &[u8]
         ensures { λ r. ⌜ now r ≡ spelled (now (text .entry)) self ⌝ }
     {
-        let end = self.end.min(text.len());
+        let end = inside(text, self.end);
         let start = self.start.min(end);
         &text[start..end]
     }
+}
+
+// The place, or the text's end where that comes first.
+fn inside(text: &[u8], place: usize) -> usize
+    ensures { λ r. ⌜ r ≡ min place (length (now (text .entry))) ⌝ }
+{
+    place.min(text.len())
 }
