@@ -22,13 +22,13 @@ fn all_go_on(bytes: &[u8]) -> bool
     true
 }
 
-fn begins_word(b: u8) -> bool
+pub(crate) fn begins_word(b: u8) -> bool
     ensures { λ r. ⌜ r ≡ beginsWord b ⌝ }
 {
     b.is_ascii_alphabetic() || b == b'_'
 }
 
-fn goes_on(b: u8) -> bool
+pub(crate) fn goes_on(b: u8) -> bool
     ensures { λ r. ⌜ r ≡ goesOn b ⌝ }
 {
     b.is_ascii_alphanumeric() || b == b'_'
