@@ -5,17 +5,17 @@ use Rattle.compiler.proofs.lay.+lay_lay_if_lay_if_else_lay_joint_lay_pair_lay_wh
 abbrev pub decreases-lay : goal.decreases-lay
 decreases-lay l = 2 * l.end + 1
 
-abbrev pub decreases-lay-if : goal.decreases-lay-if
-decreases-lay-if l = 2 * l.end
+abbrev pub decreases-lay_if : goal.decreases-lay_if
+decreases-lay_if l = 2 * l.end
 
-abbrev pub decreases-lay-if-else : goal.decreases-lay-if-else
-decreases-lay-if-else l = 2 * l.end
+abbrev pub decreases-lay_if_else : goal.decreases-lay_if_else
+decreases-lay_if_else l = 2 * l.end
 
-abbrev pub decreases-lay-joint : goal.decreases-lay-joint
-decreases-lay-joint l = 2 * l.end
+abbrev pub decreases-lay_joint : goal.decreases-lay_joint
+decreases-lay_joint l = 2 * l.end
 
-abbrev pub decreases-lay-pair : goal.decreases-lay-pair
-decreases-lay-pair l = 2 * l.end
+abbrev pub decreases-lay_pair : goal.decreases-lay_pair
+decreases-lay_pair l = 2 * l.end
 
-abbrev pub decreases-lay-while : goal.decreases-lay-while
-decreases-lay-while l = 2 * l.end
+abbrev pub decreases-lay_while : goal.decreases-lay_while
+decreases-lay_while l = 2 * l.end

@@ -2,19 +2,19 @@ use Rattle.std.proofs.Common.{ℕ, ◌-◌, ◌≤◌, length, ap, arith, rules}
 use Rattle.compiler.proofs.Parting.{last}
 use Rattle.compiler.proofs.part.start_of.Goals as goal
 
-pub overflow-sub-result : goal.overflow-sub-result
-overflow-sub-result c = (last c.args.rows.now c.args.end c.requires.0 c.requires.1).some
+pub overflow_sub-result : goal.overflow_sub-result
+overflow_sub-result c = (last c.args.rows.now c.args.end c.requires.0 c.requires.1).some
 
-pub offset-bounds-rows-end : goal.offset-bounds-rows-end
-offset-bounds-rows-end c =
+pub offset_bounds-rows-end : goal.offset_bounds-rows-end
+offset_bounds-rows-end c =
     let l : c.args.end ≤ length c.args.rows.now = (last c.args.rows.now c.args.end c.requires.0 c.requires.1).within in
     search rules
 
 pub bounds-rows-end : goal.bounds-rows-end
 bounds-rows-end c = let l = last c.args.rows.now c.args.end c.requires.0 c.requires.1 in omega (arith, l.some, l.within)
 
-pub overflow-sub-result-2 : goal.overflow-sub-result-2
-overflow-sub-result-2 c = let l = last c.args.rows.now c.args.end c.requires.0 c.requires.1 in omega (arith, l.size, l.fits)
+pub overflow_sub-result-2 : goal.overflow_sub-result-2
+overflow_sub-result-2 c = let l = last c.args.rows.now c.args.end c.requires.0 c.requires.1 in omega (arith, l.size, l.fits)
 
 pub returns : goal.returns
 returns c v s = ap (λ (n : ℕ). c.args.end - n) (last c.args.rows.now c.args.end v s).size

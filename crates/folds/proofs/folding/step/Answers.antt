@@ -14,10 +14,10 @@ pub returns : goal.returns
 returns g c =
     let xs = c.args.stack.slots.now in
     let h = c.args.stack.held in
-    let k = c.part-count.result in
+    let k = c.part_count.result in
     let parts = c.requires.parts in
     let room = c.requires.room in
-    let count = c.part-count.ensures in
+    let count = c.part_count.ensures in
     let held = c.replace.ensures.held in
     let slots = c.replace.ensures.slots in
     record {

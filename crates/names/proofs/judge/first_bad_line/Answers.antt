@@ -30,9 +30,9 @@ laws text r e =
 no_lines : (text : List ℕ) → length text ≡ 0 → Some (record { start = 0; line = 1; complaint = EmptyList }) ≡ bad_line_of text
 no_lines text e = sym (ap bad_line_of (nil_from_length text e))
 
-pub returns-then-is-empty : goal.returns-then-is-empty
-returns-then-is-empty c =
-    let l = laws c.args.text.now (Some (record { start = 0; line = 1; complaint = EmptyList })) (no_lines c.args.text.now (eqb-true (length c.args.text.now) 0 (sym c.if-is-empty.ensures))) in
+pub returns-then-is_empty : goal.returns-then-is_empty
+returns-then-is_empty c =
+    let l = laws c.args.text.now (Some (record { start = 0; line = 1; complaint = EmptyList })) (no_lines c.args.text.now (eqb-true (length c.args.text.now) 0 (sym c.if-is_empty.ensures))) in
     record { value = l.value; accepts = l.accepts; refuses = l.refuses }
 
 pub returns-in-Some : goal.returns-in-Some

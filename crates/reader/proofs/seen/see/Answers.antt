@@ -2,4 +2,4 @@ use Rattle.reader.proofs.Seeing.{here-is}
 use Rattle.reader.proofs.seen.see.Goals as goal
 
 pub returns : goal.returns
-returns c = here-is _ _ c.args.at c.peek-token.result _ c.peek-token.ensures.value c.peek-token.ensures.placed c.lexeme-of.ensures
+returns c = here-is _ _ c.args.at c.peek-token.result _ c.peek-token.ensures.value c.peek-token.ensures.placed c.lexeme_of.ensures

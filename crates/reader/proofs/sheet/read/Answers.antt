@@ -31,8 +31,8 @@ few-names list l e a =
     let same : lines_of l ≡ ns.0 = ap lines_of (same-list list l (bad_line_of list) e) ∙ listed-lines ns.0 list ns.1 in
     omega (arith, ap length same, ns.1.fine.few)
 
-pub read-under-requires : goal.read-under-requires
-read-under-requires c =
+pub read_under-requires : goal.read_under-requires
+read_under-requires c =
     few-names c.args.list.now c.in-ok-names.names.text.now c.in-ok-names.ensures.value c.in-ok-names.ensures.accepts
 
 pub returns-in-err-names : goal.returns-in-err-names
@@ -46,33 +46,33 @@ returns-in-err-names c =
 pub returns-in-Err : goal.returns-in-Err
 returns-in-Err c =
     let old : List Row = c.args.rows.now in
-    let long : length c.read-under.new.rows ≡ length old = c.read-under.auto.rows ∙ c.clear.auto.rows in
+    let long : length c.read_under.new.rows ≡ length old = c.read_under.auto.rows ∙ c.clear.auto.rows in
     let e : (Err c.in-Err.fault, c.clear-in-Err.new.rows) ≡ reading c.args.list.now c.args.sheet.now old =
     ap (λ rs. (Err c.in-Err.fault, rs)) (c.clear-in-Err.ensures ∙ ap (λ n. replicate n blank) long)
     ∙ sheet-refused c.args.list.now c.args.sheet.now old c.in-ok-names.names.text.now c.in-ok-names.ensures.value c.in-Err.fault c.in-Err.ensures in
     record { value = e; exactly = exactly _ _ _ _ _ e }
 
-pub returns-then-needed-gt-MOST-ROWS : goal.returns-then-needed-gt-MOST-ROWS
-returns-then-needed-gt-MOST-ROWS c =
+pub returns-then-needed-gt-MOST_ROWS : goal.returns-then-needed-gt-MOST_ROWS
+returns-then-needed-gt-MOST_ROWS c =
     let old : List Row = c.args.rows.now in
     let n : ℕ = c.in-Ok.needed in
-    let long : length c.read-under.new.rows ≡ length old = c.read-under.auto.rows ∙ c.clear.auto.rows in
-    let P : List Row → Type 0 = λ rs. UnderRead (lines_of c.in-ok-names.names.text.now) c.args.sheet.now rs c.read-under.new.rows n in
+    let long : length c.read_under.new.rows ≡ length old = c.read_under.auto.rows ∙ c.clear.auto.rows in
+    let P : List Row → Type 0 = λ rs. UnderRead (lines_of c.in-ok-names.names.text.now) c.args.sheet.now rs c.read_under.new.rows n in
     let under : P (blanks old) = subst P c.clear.ensures c.in-Ok.ensures in
-    let more : (2048 < n) ⊎ (length old < n) = ⊎_elim (λ h. inl h) (λ h. inr (omega (arith, h.1))) c.then-needed-gt-MOST-ROWS.either in
-    let e : (Err (too_few_slots n), c.clear-then-needed-gt-MOST-ROWS.new.rows) ≡ reading c.args.list.now c.args.sheet.now old =
-    ap (λ rs. (Err (too_few_slots n), rs)) (c.clear-then-needed-gt-MOST-ROWS.ensures ∙ ap (λ k. replicate k blank) long)
-    ∙ slots-refused c.args.list.now c.args.sheet.now old c.in-ok-names.names.text.now c.in-ok-names.ensures.value c.read-under.new.rows n under more in
+    let more : (2048 < n) ⊎ (length old < n) = ⊎_elim (λ h. inl h) (λ h. inr (omega (arith, h.1))) c.then-needed-gt-MOST_ROWS.either in
+    let e : (Err (too_few_slots n), c.clear-then-needed-gt-MOST_ROWS.new.rows) ≡ reading c.args.list.now c.args.sheet.now old =
+    ap (λ rs. (Err (too_few_slots n), rs)) (c.clear-then-needed-gt-MOST_ROWS.ensures ∙ ap (λ k. replicate k blank) long)
+    ∙ slots-refused c.args.list.now c.args.sheet.now old c.in-ok-names.names.text.now c.in-ok-names.ensures.value c.read_under.new.rows n under more in
     record { value = e; exactly = exactly _ _ _ _ _ e }
 
 pub returns : goal.returns
 returns c =
     let old : List Row = c.args.rows.now in
     let n : ℕ = c.in-Ok.needed in
-    let long : length c.read-under.new.rows ≡ length old = c.read-under.auto.rows ∙ c.clear.auto.rows in
-    let P : List Row → Type 0 = λ rs. UnderRead (lines_of c.in-ok-names.names.text.now) c.args.sheet.now rs c.read-under.new.rows n in
+    let long : length c.read_under.new.rows ≡ length old = c.read_under.auto.rows ∙ c.clear.auto.rows in
+    let P : List Row → Type 0 = λ rs. UnderRead (lines_of c.in-ok-names.names.text.now) c.args.sheet.now rs c.read_under.new.rows n in
     let under : P (blanks old) = subst P c.clear.ensures c.in-Ok.ensures in
     let room : n ≤ length old = omega (arith, c.if-needed-rows.false) in
-    let e : (Ok n, c.read-under.new.rows) ≡ reading c.args.list.now c.args.sheet.now old =
-    sheet-read c.args.list.now c.args.sheet.now old c.in-ok-names.names.text.now c.in-ok-names.ensures.value c.read-under.new.rows n under c.if-needed-gt-MOST-ROWS.false room in
+    let e : (Ok n, c.read_under.new.rows) ≡ reading c.args.list.now c.args.sheet.now old =
+    sheet-read c.args.list.now c.args.sheet.now old c.in-ok-names.names.text.now c.in-ok-names.ensures.value c.read_under.new.rows n under c.if-needed-gt-MOST_ROWS.false room in
     record { value = e; exactly = exactly _ _ _ _ _ e }

@@ -6,5 +6,5 @@ use Rattle.scanner.proofs.scan.sign_from.Goals as goal
 
 pub returns-in-None : goal.returns-in-None
 returns-in-None c =
-    ap (λ (k : Kind). token k c.args.start (c.args.start + 1)) c.single-sign.ensures
+    ap (λ (k : Kind). token k c.args.start (c.args.start + 1)) c.single_sign.ensures
     ∙ short-sign c.args.text.now c.args.start c.requires c.in-None.ensures

@@ -19,11 +19,11 @@ told text at t e = (
 
 pub returns-then-start-text : goal.returns-then-start-text
 returns-then-start-text c =
-    let w = told c.args.text.now c.args.at _ (is_found _ _ _ _ c.run-end-start.ensures c.token-from.ensures) in
+    let w = told c.args.text.now c.args.at _ (is_found _ _ _ _ c.run_end-start.ensures c.token_from.ensures) in
     record { value = w.0; placed = w.1; found = w.2 }
 
 pub returns-else-start-text : goal.returns-else-start-text
 returns-else-start-text c =
-    let s = c.run-end-start.result in
-    let w = told c.args.text.now c.args.at _ (is_found _ _ _ _ c.run-end-start.ensures (sym (at_drop_all (standing s) c.args.text.now s c.if-start-text.false))) in
+    let s = c.run_end-start.result in
+    let w = told c.args.text.now c.args.at _ (is_found _ _ _ _ c.run_end-start.ensures (sym (at_drop_all (standing s) c.args.text.now s c.if-start-text.false))) in
     record { value = w.0; placed = w.1; found = w.2 }

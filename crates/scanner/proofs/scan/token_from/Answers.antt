@@ -2,15 +2,15 @@ use Rattle.std.proofs.Common.{sym, ◌∙◌}
 use Rattle.scanner.proofs.Standing.{number-here, word-here, sign-here}
 use Rattle.scanner.proofs.scan.token_from.Goals as goal
 
-pub returns-then-is-ascii-digit : goal.returns-then-is-ascii-digit
-returns-then-is-ascii-digit c =
-    number-here c.args.text.now c.args.start c.requires _ (sym c.if-is-ascii-digit.ensures.value) c.run-end.ensures
+pub returns-then-is_ascii_digit : goal.returns-then-is_ascii_digit
+returns-then-is_ascii_digit c =
+    number-here c.args.text.now c.args.start c.requires _ (sym c.if-is_ascii_digit.ensures.value) c.run_end.ensures
 
-pub returns-then-begins-word : goal.returns-then-begins-word
-returns-then-begins-word c =
-    word-here c.args.text.now c.args.start c.requires _ (sym c.if-is-ascii-digit.ensures.value) (sym c.if-begins-word.ensures) c.run-end-then-begins-word.ensures
+pub returns-then-begins_word : goal.returns-then-begins_word
+returns-then-begins_word c =
+    word-here c.args.text.now c.args.start c.requires _ (sym c.if-is_ascii_digit.ensures.value) (sym c.if-begins_word.ensures) c.run_end-then-begins_word.ensures
 
-pub returns-else-begins-word : goal.returns-else-begins-word
-returns-else-begins-word c =
-    c.sign-from.ensures
-    ∙ sign-here c.args.text.now c.args.start c.requires (sym c.if-is-ascii-digit.ensures.value) (sym c.if-begins-word.ensures)
+pub returns-else-begins_word : goal.returns-else-begins_word
+returns-else-begins_word c =
+    c.sign_from.ensures
+    ∙ sign-here c.args.text.now c.args.start c.requires (sym c.if-is_ascii_digit.ensures.value) (sym c.if-begins_word.ensures)

@@ -9,7 +9,7 @@ begun : (xs : List ℕ) → true ≡ begins_word (get_or xs 0 0) → all_go_on (
 begun [] e = absurd (true≢false e)
 begun (b ∷ bs) e = ap (λ (t : Bool). t && all_go_on bs) e
 
-pub returns-then-begins-word : goal.returns-then-begins-word
-returns-then-begins-word c =
-    c.all-go-on.ensures ∙ ap all_go_on (take_rest c.args.bytes.now 1)
-    ∙ begun c.args.bytes.now c.if-begins-word.ensures
+pub returns-then-begins_word : goal.returns-then-begins_word
+returns-then-begins_word c =
+    c.all_go_on.ensures ∙ ap all_go_on (take_rest c.args.bytes.now 1)
+    ∙ begun c.args.bytes.now c.if-begins_word.ensures

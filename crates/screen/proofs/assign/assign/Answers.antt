@@ -8,14 +8,14 @@ use Rattle.screen.proofs.Costs.{spent-sum}
 use Rattle.screen.proofs.Commands.{setting, set-late, set-stopped-late, set_ended, set-stopped}
 use Rattle.screen.proofs.assign.assign.Goals as goal
 
-pub overflow-sub-end : goal.overflow-sub-end
-overflow-sub-end c =
+pub overflow_sub-end : goal.overflow_sub-end
+overflow_sub-end c =
     let P = c.requires.tree in
     let S = setting P.3 in
     S.some
 
-pub overflow-sub-point : goal.overflow-sub-point
-overflow-sub-point c =
+pub overflow_sub-point : goal.overflow_sub-point
+overflow_sub-point c =
     let P = c.requires.tree in
     let S = setting P.3 in
     S.some
@@ -34,8 +34,8 @@ sum-requires c =
     let few = c.requires.few in
     record { tree = (P.2, S.part); small = omega (arith, S.part-size, S.part-few) }
 
-pub overflow-add-before : goal.overflow-add-before
-overflow-add-before c =
+pub overflow_add-before : goal.overflow_add-before
+overflow_add-before c =
     let P = c.requires.tree in
     let S = setting P.3 in
     let small = c.requires.small in
@@ -44,8 +44,8 @@ overflow-add-before c =
     let before = spent-sum P.2 c.args.points.now c.args.spent c.in-Ok.before c.in-Ok.value (c.in-Ok.ensures P.2 S.part) in
     search rules
 
-pub overflow-cast-point : goal.overflow-cast-point
-overflow-cast-point c =
+pub overflow_cast-point : goal.overflow_cast-point
+overflow_cast-point c =
     let P = c.requires.tree in
     let S = setting P.3 in
     let f : to_z w32 (of_z w32 (get_or c.args.rows.now (c.args.end - 1) blank).value) ≡ (get_or c.args.rows.now (c.args.end - 1) blank).value = search rules in

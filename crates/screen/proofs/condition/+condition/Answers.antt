@@ -9,8 +9,8 @@ use Rattle.screen.specs.Parts.{ConditionAt}
 use Rattle.screen.proofs.Conditions.{condition-end, truthful, comparing, negating, connecting}
 use Rattle.screen.proofs.condition.+condition.Goals as goal
 
-pub overflow-sub-row : goal.overflow-sub-row
-overflow-sub-row t c = (condition-end c.requires.tree.1).0
+pub overflow_sub-row : goal.overflow_sub-row
+overflow_sub-row t c = (condition-end c.requires.tree.1).0
 
 pub bounds-rows-end : goal.bounds-rows-end
 bounds-rows-end t c = let e = condition-end c.requires.tree.1 in omega (arith, e.0, e.1)
@@ -23,8 +23,8 @@ compare-requires t c =
       small = c.requires.small;
     }
 
-pub overflow-sub-end : goal.overflow-sub-end
-overflow-sub-end t c = (condition-end c.requires.tree.1).0
+pub overflow_sub-end : goal.overflow_sub-end
+overflow_sub-end t c = (condition-end c.requires.tree.1).0
 
 pub condition-requires : goal.condition-requires
 condition-requires t c =
@@ -33,50 +33,50 @@ condition-requires t c =
     let small = c.requires.small in
     (search rules, ((N.d, N.part), omega (arith, N.size, N.part-size)))
 
-pub overflow-add-result-in-Not : goal.overflow-add-result-in-Not
-overflow-add-result-in-Not t c =
+pub overflow_add-result-in-Not : goal.overflow_add-result-in-Not
+overflow_add-result-in-Not t c =
     let N = negating c.requires.tree.1 c.in-Not.is in
     let small = c.requires.small in
     let n = N.size in
     let before = spent-condition N.d c.args.points.now c.args.spent c.in-ok-part.before c.in-ok-part.part (c.in-ok-part.ensures N.d N.part) in
     search rules
 
-pub overflow-sub-middle : goal.overflow-sub-middle
-overflow-sub-middle t c = (condition-end c.requires.tree.1).0
+pub overflow_sub-middle : goal.overflow_sub-middle
+overflow_sub-middle t c = (condition-end c.requires.tree.1).0
 
-pub overflow-sub-middle-in-default : goal.overflow-sub-middle-in-default
-overflow-sub-middle-in-default t c = (connecting c.requires.tree.1 c.in-default.not-Truth c.in-default.not-Compare c.in-default.not-Not).two
+pub overflow_sub-middle-in_default : goal.overflow_sub-middle-in_default
+overflow_sub-middle-in_default t c = (connecting c.requires.tree.1 c.in_default.not-Truth c.in_default.not-Compare c.in_default.not-Not).two
 
-pub bounds-rows-end-in-default : goal.bounds-rows-end-in-default
-bounds-rows-end-in-default t c =
-    let C = connecting c.requires.tree.1 c.in-default.not-Truth c.in-default.not-Compare c.in-default.not-Not in
+pub bounds-rows-end-in_default : goal.bounds-rows-end-in_default
+bounds-rows-end-in_default t c =
+    let C = connecting c.requires.tree.1 c.in_default.not-Truth c.in_default.not-Compare c.in_default.not-Not in
     let e = condition-end c.requires.tree.1 in
     omega (arith, e.1, C.two)
 
-pub overflow-sub-middle-in-default-2 : goal.overflow-sub-middle-in-default-2
-overflow-sub-middle-in-default-2 t c = let C = connecting c.requires.tree.1 c.in-default.not-Truth c.in-default.not-Compare c.in-default.not-Not in omega (arith, C.last, C.room)
+pub overflow_sub-middle-in_default-2 : goal.overflow_sub-middle-in_default-2
+overflow_sub-middle-in_default-2 t c = let C = connecting c.requires.tree.1 c.in_default.not-Truth c.in_default.not-Compare c.in_default.not-Not in omega (arith, C.last, C.room)
 
-pub overflow-sub-end-in-default : goal.overflow-sub-end-in-default
-overflow-sub-end-in-default t c = (condition-end c.requires.tree.1).0
+pub overflow_sub-end-in_default : goal.overflow_sub-end-in_default
+overflow_sub-end-in_default t c = (condition-end c.requires.tree.1).0
 
-pub condition-requires-in-default : goal.condition-requires-in-default
-condition-requires-in-default t c =
-    let C = connecting c.requires.tree.1 c.in-default.not-Truth c.in-default.not-Compare c.in-default.not-Not in
+pub condition-requires-in_default : goal.condition-requires-in_default
+condition-requires-in_default t c =
+    let C = connecting c.requires.tree.1 c.in_default.not-Truth c.in_default.not-Compare c.in_default.not-Not in
     let small = c.requires.small in
     let two = C.two in
     (search rules, ((C.l, C.left), omega (arith, C.size, C.left-size)))
 
-pub condition-requires-in-default-2 : goal.condition-requires-in-default-2
-condition-requires-in-default-2 t c =
-    let C = connecting c.requires.tree.1 c.in-default.not-Truth c.in-default.not-Compare c.in-default.not-Not in
+pub condition-requires-in_default-2 : goal.condition-requires-in_default-2
+condition-requires-in_default-2 t c =
+    let C = connecting c.requires.tree.1 c.in_default.not-Truth c.in_default.not-Compare c.in_default.not-Not in
     let small = c.requires.small in
     let two = C.two in
     let before = spent-condition C.l c.args.points.now c.args.spent c.in-ok-left.before c.in-ok-left.left (c.in-ok-left.ensures C.l C.left) in
     (search rules, ((C.r, C.right), omega (arith, C.size, C.right-size)))
 
-pub overflow-add-result-in-default : goal.overflow-add-result-in-default
-overflow-add-result-in-default t c =
-    let C = connecting c.requires.tree.1 c.in-default.not-Truth c.in-default.not-Compare c.in-default.not-Not in
+pub overflow_add-result-in_default : goal.overflow_add-result-in_default
+overflow_add-result-in_default t c =
+    let C = connecting c.requires.tree.1 c.in_default.not-Truth c.in_default.not-Compare c.in_default.not-Not in
     let small = c.requires.small in
     let n = C.size in
     let before = spent-condition C.l c.args.points.now c.args.spent c.in-ok-left.before c.in-ok-left.left (c.in-ok-left.ensures C.l C.left) in
@@ -116,14 +116,14 @@ returns-in-ok-part t c t' at =
 pub returns-in-err-left : goal.returns-in-err-left
 returns-in-err-left t c t' at =
     let p = c.args.points.now in
-    let C = connecting at c.in-default.not-Truth c.in-default.not-Compare c.in-default.not-Not in
+    let C = connecting at c.in_default.not-Truth c.in_default.not-Compare c.in_default.not-Not in
     let E = err_from_is_err_and c.from-residual-in-err-left.result c.from-residual-in-err-left.ensures.1 in
     rw (E.1, E.2) (then-stop c.args.spent _ _ _ (condition_work C.l p) _ (c.in-err-left.ensures C.l C.left) ∙ ap (λ (x : Condition). after c.args.spent (condition_work x p)) (sym C.is))
 
 pub returns-in-err-right : goal.returns-in-err-right
 returns-in-err-right t c t' at =
     let p = c.args.points.now in
-    let C = connecting at c.in-default.not-Truth c.in-default.not-Compare c.in-default.not-Not in
+    let C = connecting at c.in_default.not-Truth c.in_default.not-Compare c.in_default.not-Not in
     let E = err_from_is_err_and c.from-residual-in-err-right.result c.from-residual-in-err-right.ensures.1 in
     let h = c.in-ok-left.ensures C.l C.left in
     rw (E.1, E.2) (then-stop c.in-ok-left.before _ _ _ (condition_work C.r p) _ (c.in-err-right.ensures C.r C.right) ∙ sym (then-done c.args.spent c.in-ok-left.before c.in-ok-left.left (condition_work C.l p) _ h) ∙ ap (λ (x : Condition). after c.args.spent (condition_work x p)) (sym C.is))
@@ -131,7 +131,7 @@ returns-in-err-right t c t' at =
 pub returns-in-ok-right : goal.returns-in-ok-right
 returns-in-ok-right t c t' at =
     let p = c.args.points.now in
-    let C = connecting at c.in-default.not-Truth c.in-default.not-Compare c.in-default.not-Not in
+    let C = connecting at c.in_default.not-Truth c.in_default.not-Compare c.in_default.not-Not in
     let h = c.in-ok-left.ensures C.l C.left in
     let e = c.in-ok-right.ensures C.r C.right in
     ap (λ (x : Bool). done (c.in-ok-right.both + 1) x) (c.connect.ensures ∙ C.joined c.in-ok-left.left c.in-ok-right.right)

@@ -8,8 +8,8 @@ use Rattle.screen.proofs.Costs.{then-done, then-stop, spent-sum}
 use Rattle.screen.proofs.Parting.{compared}
 use Rattle.screen.proofs.condition.compare.Goals as goal
 
-pub overflow-sub-row : goal.overflow-sub-row
-overflow-sub-row c =
+pub overflow_sub-row : goal.overflow_sub-row
+overflow_sub-row c =
     let P = c.requires.tree in
     let C = compared P.4 in
     omega (arith, C.two)
@@ -20,14 +20,14 @@ bounds-rows-end c =
     let C = compared P.4 in
     omega (arith, C.two, C.within)
 
-pub overflow-sub-middle : goal.overflow-sub-middle
-overflow-sub-middle c =
+pub overflow_sub-middle : goal.overflow_sub-middle
+overflow_sub-middle c =
     let P = c.requires.tree in
     let C = compared P.4 in
     omega (arith, C.two)
 
-pub overflow-sub-middle-2 : goal.overflow-sub-middle-2
-overflow-sub-middle-2 c =
+pub overflow_sub-middle-2 : goal.overflow_sub-middle-2
+overflow_sub-middle-2 c =
     let P = c.requires.tree in
     let C = compared P.4 in
     C.two
@@ -38,14 +38,14 @@ bounds-rows-end-2 c =
     let C = compared P.4 in
     omega (arith, C.two, C.within)
 
-pub overflow-sub-middle-3 : goal.overflow-sub-middle-3
-overflow-sub-middle-3 c =
+pub overflow_sub-middle-3 : goal.overflow_sub-middle-3
+overflow_sub-middle-3 c =
     let P = c.requires.tree in
     let C = compared P.4 in
     omega (arith, C.last, C.room)
 
-pub overflow-sub-end : goal.overflow-sub-end
-overflow-sub-end c =
+pub overflow_sub-end : goal.overflow_sub-end
+overflow_sub-end c =
     let P = c.requires.tree in
     let C = compared P.4 in
     omega (arith, C.two)
@@ -69,8 +69,8 @@ sum-requires-2 c =
     let before = spent-sum P.2 c.args.points.now c.args.spent c.in-ok-left.before c.in-ok-left.left (c.in-ok-left.ensures P.2 C.left) in
     record { tree = (P.3, C.right); small = omega arith }
 
-pub overflow-add-result : goal.overflow-add-result
-overflow-add-result c =
+pub overflow_add-result : goal.overflow_add-result
+overflow_add-result c =
     let P = c.requires.tree in
     let C = compared P.4 in
     let own = ap (λ (x : Row). x.size) C.own in
@@ -107,8 +107,8 @@ returns c q k l r at =
     let fv : to_z w32 (of_z w32 (get_or R (c.args.end - 1) blank).value) ≡ (get_or R (c.args.end - 1) blank).value = search rules in
     let fl : to_z w32 (of_z w32 c.in-ok-left.left) ≡ c.in-ok-left.left = search rules in
     let fr : to_z w32 (of_z w32 c.in-ok-right.right) ≡ c.in-ok-right.right = search rules in
-    let hb = c.holds-by.ensures k (fv ∙ ap (λ (x : Row). x.value) C.own) in
-    let v : c.holds-by.result ≡ holds k c.in-ok-left.left c.in-ok-right.right = hb ∙ ap (λ (x : ℤ). holds k x (to_z w32 (of_z w32 c.in-ok-right.right))) fl ∙ ap (holds k c.in-ok-left.left) fr in
+    let hb = c.holds_by.ensures k (fv ∙ ap (λ (x : Row). x.value) C.own) in
+    let v : c.holds_by.result ≡ holds k c.in-ok-left.left c.in-ok-right.right = hb ∙ ap (λ (x : ℤ). holds k x (to_z w32 (of_z w32 c.in-ok-right.right))) fl ∙ ap (holds k c.in-ok-left.left) fr in
     ap (λ (x : Bool). done (c.in-ok-right.both + 1) x) v
     ∙ sym (then-done c.in-ok-left.before c.in-ok-right.both c.in-ok-right.right (sum_work r p) (λ y. done 1 (holds k c.in-ok-left.left y)) e)
     ∙ sym (then-done c.args.spent c.in-ok-left.before c.in-ok-left.left (sum_work l p) (λ x. then (sum_work r p) (λ y. done 1 (holds k x y))) h)

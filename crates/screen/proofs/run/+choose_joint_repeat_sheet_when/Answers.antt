@@ -27,13 +27,13 @@ sized R m n e = ap (λ (k : ℕ). (get_or R (k - 1) blank).size) e
 second-start : (R : List Row) (m n : ℕ) → n ≡ m → n - (get_or R (n - 1) blank).size ≡ m - (get_or R (m - 1) blank).size
 second-start R m n e = ap (λ (k : ℕ). k - (get_or R (k - 1) blank).size) e
 
-pub when-overflow-sub-end : goal.when-overflow-sub-end
-when-overflow-sub-end t c =
+pub when-overflow_sub-end : goal.when-overflow_sub-end
+when-overflow_sub-end t c =
     let T = when-parts c.requires.tree.3 in
     T.some
 
-pub when-start-of-test-requires : goal.when-start-of-test-requires
-when-start-of-test-requires t c =
+pub when-start_of-test-requires : goal.when-start_of-test-requires
+when-start_of-test-requires t c =
     let T = when-parts c.requires.tree.3 in
     let w = T.within in
     record { some = T.body-some; within = omega arith; whole = T.room }
@@ -44,17 +44,17 @@ when-judge-requires t c =
     let few = c.requires.few in
     let limit = c.requires.limit in
     let begun = c.requires.begun in
-    record { tree = (c.requires.tree.1, condition-at c.start-of-test.ensures T.test); few = c.requires.few; small = omega arith }
+    record { tree = (c.requires.tree.1, condition-at c.start_of-test.ensures T.test); few = c.requires.few; small = omega arith }
 
-pub when-overflow-sub-end-in-Holds : goal.when-overflow-sub-end-in-Holds
-when-overflow-sub-end-in-Holds t c =
+pub when-overflow_sub-end-in-Holds : goal.when-overflow_sub-end-in-Holds
+when-overflow_sub-end-in-Holds t c =
     let T = when-parts c.requires.tree.3 in
     T.some
 
 pub when-sheet-requires : goal.when-sheet-requires
 when-sheet-requires t c =
     let T = when-parts c.requires.tree.3 in
-    let J = c.in-Holds.ensures c.requires.tree.1 (condition-at c.start-of-test.ensures T.test) in
+    let J = c.in-Holds.ensures c.requires.tree.1 (condition-at c.start_of-test.ensures T.test) in
     let f = T.body-falls in
     let m = c.decreases in
     (search rules, ((c.requires.tree.2, T.body), (c.requires.few, (c.requires.limit, J.2))))
@@ -62,77 +62,77 @@ when-sheet-requires t c =
 pub when-returns-in-Holds : goal.when-returns-in-Holds
 when-returns-in-Holds t c q h b at =
     let T = when-parts at in
-    let J = c.in-Holds.ensures h (condition-at c.start-of-test.ensures T.test) in
+    let J = c.in-Holds.ensures h (condition-at c.start_of-test.ensures T.test) in
     when-ran q h b c.args.points.now c.args.spent c.args.allowance c.in-Holds.made c.sheet.result c.sheet.new.points J (c.sheet.ensures b T.body)
 
 pub when-returns-in-Fails : goal.when-returns-in-Fails
 when-returns-in-Fails t c q h b at =
     let T = when-parts at in
-    let J = c.in-Fails.ensures h (condition-at c.start-of-test.ensures T.test) in
+    let J = c.in-Fails.ensures h (condition-at c.start_of-test.ensures T.test) in
     when-failed q h b c.args.points.now c.args.spent c.args.allowance c.in-Fails.made J
 
 pub when-returns-in-Stopped : goal.when-returns-in-Stopped
 when-returns-in-Stopped t c q h b at =
     let T = when-parts at in
-    let J = c.in-Stopped.ensures h (condition-at c.start-of-test.ensures T.test) in
+    let J = c.in-Stopped.ensures h (condition-at c.start_of-test.ensures T.test) in
     when-stopped q h b c.args.points.now c.args.spent c.args.allowance c.in-Stopped.stop c.args.points.now J
 
 pub when-returns-in-Spent : goal.when-returns-in-Spent
 when-returns-in-Spent t c q h b at =
     let T = when-parts at in
-    let J = c.in-Spent.ensures h (condition-at c.start-of-test.ensures T.test) in
+    let J = c.in-Spent.ensures h (condition-at c.start_of-test.ensures T.test) in
     when-spent q h b c.args.points.now c.args.spent c.args.allowance c.args.points.now J
 
-pub choose-overflow-sub-end : goal.choose-overflow-sub-end
-choose-overflow-sub-end t c =
+pub choose-overflow_sub-end : goal.choose-overflow_sub-end
+choose-overflow_sub-end t c =
     let T = choose-parts c.requires.tree.4 in
     T.some
 
-pub choose-start-of-second-requires : goal.choose-start-of-second-requires
-choose-start-of-second-requires t c =
+pub choose-start_of-second-requires : goal.choose-start_of-second-requires
+choose-start_of-second-requires t c =
     let T = choose-parts c.requires.tree.4 in
     let w = T.within in
     record { some = T.body-some; within = omega arith; whole = T.room }
 
-pub choose-start-of-test-requires : goal.choose-start-of-test-requires
-choose-start-of-test-requires t c =
+pub choose-start_of-test-requires : goal.choose-start_of-test-requires
+choose-start_of-test-requires t c =
     let T = choose-parts c.requires.tree.4 in
-    let e = c.start-of-second.ensures in
+    let e = c.start_of-second.ensures in
     let w = T.within in
     let r = T.second-room in
-    let z = sized c.args.rows.now _ c.start-of-second.result e in
+    let z = sized c.args.rows.now _ c.start_of-second.result e in
     let s = T.second-some in
     record { some = omega arith; within = omega arith; whole = omega arith }
 
 pub choose-judge-requires : goal.choose-judge-requires
 choose-judge-requires t c =
     let T = choose-parts c.requires.tree.4 in
-    let same = second-start c.args.rows.now _ c.start-of-second.result c.start-of-second.ensures in
+    let same = second-start c.args.rows.now _ c.start_of-second.result c.start_of-second.ensures in
     let few = c.requires.few in
     let limit = c.requires.limit in
     let begun = c.requires.begun in
-    record { tree = (c.requires.tree.1, (condition-at (c.start-of-test.ensures ∙ same) T.test)); few = c.requires.few; small = omega arith }
+    record { tree = (c.requires.tree.1, (condition-at (c.start_of-test.ensures ∙ same) T.test)); few = c.requires.few; small = omega arith }
 
 pub choose-sheet-first-requires : goal.choose-sheet-first-requires
 choose-sheet-first-requires t c =
     let T = choose-parts c.requires.tree.4 in
-    let same = second-start c.args.rows.now _ c.start-of-second.result c.start-of-second.ensures in
-    let J = c.in-Holds.ensures c.requires.tree.1 (condition-at (c.start-of-test.ensures ∙ same) T.test) in
+    let same = second-start c.args.rows.now _ c.start_of-second.result c.start_of-second.ensures in
+    let J = c.in-Holds.ensures c.requires.tree.1 (condition-at (c.start_of-test.ensures ∙ same) T.test) in
     let f = T.first-falls in
-    let z = sized c.args.rows.now _ c.start-of-second.result c.start-of-second.ensures in
+    let z = sized c.args.rows.now _ c.start_of-second.result c.start_of-second.ensures in
     let m = c.decreases in
-    (search rules, ((c.requires.tree.2, sheet-at c.start-of-second.ensures T.first), (c.requires.few, (c.requires.limit, J.2))))
+    (search rules, ((c.requires.tree.2, sheet-at c.start_of-second.ensures T.first), (c.requires.few, (c.requires.limit, J.2))))
 
-pub choose-overflow-sub-end-in-Fails : goal.choose-overflow-sub-end-in-Fails
-choose-overflow-sub-end-in-Fails t c =
+pub choose-overflow_sub-end-in-Fails : goal.choose-overflow_sub-end-in-Fails
+choose-overflow_sub-end-in-Fails t c =
     let T = choose-parts c.requires.tree.4 in
     T.some
 
 pub choose-sheet-requires : goal.choose-sheet-requires
 choose-sheet-requires t c =
     let T = choose-parts c.requires.tree.4 in
-    let same = second-start c.args.rows.now _ c.start-of-second.result c.start-of-second.ensures in
-    let J = c.in-Fails.ensures c.requires.tree.1 (condition-at (c.start-of-test.ensures ∙ same) T.test) in
+    let same = second-start c.args.rows.now _ c.start_of-second.result c.start_of-second.ensures in
+    let J = c.in-Fails.ensures c.requires.tree.1 (condition-at (c.start_of-test.ensures ∙ same) T.test) in
     let f = T.second-falls in
     let m = c.decreases in
     (search rules, ((c.requires.tree.3, T.second), (c.requires.few, (c.requires.limit, J.2))))
@@ -140,40 +140,40 @@ choose-sheet-requires t c =
 pub choose-returns-in-Holds : goal.choose-returns-in-Holds
 choose-returns-in-Holds t c q h b d at =
     let T = choose-parts at in
-    let same = second-start c.args.rows.now _ c.start-of-second.result c.start-of-second.ensures in
-    let J = c.in-Holds.ensures h (condition-at (c.start-of-test.ensures ∙ same) T.test) in
-    let B = c.sheet-first.ensures b (sheet-at c.start-of-second.ensures T.first) in
-    let M = one-more-is c.args.points.now b c.in-Holds.made c.args.allowance c.sheet-first.result c.one-more.result c.sheet-first.new.points c.one-more.ensures B in
-    choose-first q h b d c.args.points.now c.args.spent c.args.allowance c.in-Holds.made c.one-more.result c.sheet-first.new.points J M
+    let same = second-start c.args.rows.now _ c.start_of-second.result c.start_of-second.ensures in
+    let J = c.in-Holds.ensures h (condition-at (c.start_of-test.ensures ∙ same) T.test) in
+    let B = c.sheet-first.ensures b (sheet-at c.start_of-second.ensures T.first) in
+    let M = one-more-is c.args.points.now b c.in-Holds.made c.args.allowance c.sheet-first.result c.one_more.result c.sheet-first.new.points c.one_more.ensures B in
+    choose-first q h b d c.args.points.now c.args.spent c.args.allowance c.in-Holds.made c.one_more.result c.sheet-first.new.points J M
 
 pub choose-returns-in-Fails : goal.choose-returns-in-Fails
 choose-returns-in-Fails t c q h b d at =
     let T = choose-parts at in
-    let same = second-start c.args.rows.now _ c.start-of-second.result c.start-of-second.ensures in
-    let J = c.in-Fails.ensures h (condition-at (c.start-of-test.ensures ∙ same) T.test) in
+    let same = second-start c.args.rows.now _ c.start_of-second.result c.start_of-second.ensures in
+    let J = c.in-Fails.ensures h (condition-at (c.start_of-test.ensures ∙ same) T.test) in
     choose-second q h b d c.args.points.now c.args.spent c.args.allowance c.in-Fails.made c.sheet.result c.sheet.new.points J (c.sheet.ensures d T.second)
 
 pub choose-returns-in-Stopped : goal.choose-returns-in-Stopped
 choose-returns-in-Stopped t c q h b d at =
     let T = choose-parts at in
-    let same = second-start c.args.rows.now _ c.start-of-second.result c.start-of-second.ensures in
-    let J = c.in-Stopped.ensures h (condition-at (c.start-of-test.ensures ∙ same) T.test) in
+    let same = second-start c.args.rows.now _ c.start_of-second.result c.start_of-second.ensures in
+    let J = c.in-Stopped.ensures h (condition-at (c.start_of-test.ensures ∙ same) T.test) in
     choose-stopped q h b d c.args.points.now c.args.spent c.args.allowance c.in-Stopped.stop c.args.points.now J
 
 pub choose-returns-in-Spent : goal.choose-returns-in-Spent
 choose-returns-in-Spent t c q h b d at =
     let T = choose-parts at in
-    let same = second-start c.args.rows.now _ c.start-of-second.result c.start-of-second.ensures in
-    let J = c.in-Spent.ensures h (condition-at (c.start-of-test.ensures ∙ same) T.test) in
+    let same = second-start c.args.rows.now _ c.start_of-second.result c.start_of-second.ensures in
+    let J = c.in-Spent.ensures h (condition-at (c.start_of-test.ensures ∙ same) T.test) in
     choose-spent q h b d c.args.points.now c.args.spent c.args.allowance c.args.points.now J
 
-pub joint-overflow-sub-end : goal.joint-overflow-sub-end
-joint-overflow-sub-end t c =
+pub joint-overflow_sub-end : goal.joint-overflow_sub-end
+joint-overflow_sub-end t c =
     let T = joint-parts c.requires.tree.3 in
     T.some
 
-pub joint-start-of-command-requires : goal.joint-start-of-command-requires
-joint-start-of-command-requires t c =
+pub joint-start_of-command-requires : goal.joint-start_of-command-requires
+joint-start_of-command-requires t c =
     let T = joint-parts c.requires.tree.3 in
     let w = T.within in
     record { some = T.body-some; within = omega arith; whole = T.room }
@@ -182,19 +182,19 @@ pub joint-sheet-requires : goal.joint-sheet-requires
 joint-sheet-requires t c =
     let T = joint-parts c.requires.tree.3 in
     let f = T.first-falls in
-    let z = sized c.args.rows.now _ c.start-of-command.result c.start-of-command.ensures in
+    let z = sized c.args.rows.now _ c.start_of-command.result c.start_of-command.ensures in
     let m = c.decreases in
-    (search rules, ((only c.requires.tree.1, sheet-at c.start-of-command.ensures T.first), (c.requires.few, (c.requires.limit, c.requires.begun))))
+    (search rules, ((only c.requires.tree.1, sheet-at c.start_of-command.ensures T.first), (c.requires.few, (c.requires.limit, c.requires.begun))))
 
-pub joint-overflow-sub-end-in-Ended : goal.joint-overflow-sub-end-in-Ended
-joint-overflow-sub-end-in-Ended t c =
+pub joint-overflow_sub-end-in-Ended : goal.joint-overflow_sub-end-in-Ended
+joint-overflow_sub-end-in-Ended t c =
     let T = joint-parts c.requires.tree.3 in
     T.some
 
 pub joint-sheet-requires-in-Ended : goal.joint-sheet-requires-in-Ended
 joint-sheet-requires-in-Ended t c =
     let T = joint-parts c.requires.tree.3 in
-    let B = c.in-Ended.ensures (only c.requires.tree.1) (sheet-at c.start-of-command.ensures T.first) in
+    let B = c.in-Ended.ensures (only c.requires.tree.1) (sheet-at c.start_of-command.ensures T.first) in
     let l : length c.sheet.new.points ≡ length c.args.points.now = omega (arith, c.sheet.auto.points) in
     let f = T.rest-falls in
     let m = c.decreases in
@@ -203,29 +203,29 @@ joint-sheet-requires-in-Ended t c =
 pub joint-returns-in-Ended : goal.joint-returns-in-Ended
 joint-returns-in-Ended t c q k b at =
     let T = joint-parts at in
-    let B = c.in-Ended.ensures (only k) (sheet-at c.start-of-command.ensures T.first) in
+    let B = c.in-Ended.ensures (only k) (sheet-at c.start_of-command.ensures T.first) in
     let l : length c.sheet.new.points ≡ length c.args.points.now = omega (arith, c.sheet.auto.points) in
     joint-ran q k b c.args.points.now c.args.spent c.args.allowance c.in-Ended.made c.sheet.new.points B c.sheet-in-Ended.result c.sheet-in-Ended.new.points (c.sheet-in-Ended.ensures b (as_long l T.rest))
 
 pub joint-returns-in-Stopped : goal.joint-returns-in-Stopped
 joint-returns-in-Stopped t c q k b at =
     let T = joint-parts at in
-    let B = c.in-Stopped.ensures (only k) (sheet-at c.start-of-command.ensures T.first) in
+    let B = c.in-Stopped.ensures (only k) (sheet-at c.start_of-command.ensures T.first) in
     joint-stopped q k b c.args.points.now c.args.spent c.args.allowance c.in-Stopped.stop c.sheet.new.points c.sheet.new.points B
 
 pub joint-returns-in-Spent : goal.joint-returns-in-Spent
 joint-returns-in-Spent t c q k b at =
     let T = joint-parts at in
-    let B = c.in-Spent.ensures (only k) (sheet-at c.start-of-command.ensures T.first) in
+    let B = c.in-Spent.ensures (only k) (sheet-at c.start_of-command.ensures T.first) in
     joint-spent q k b c.args.points.now c.args.spent c.args.allowance c.sheet.new.points c.sheet.new.points B
 
-pub repeat-overflow-sub-end : goal.repeat-overflow-sub-end
-repeat-overflow-sub-end t c =
+pub repeat-overflow_sub-end : goal.repeat-overflow_sub-end
+repeat-overflow_sub-end t c =
     let T = while-parts c.requires.tree.3 in
     T.some
 
-pub repeat-start-of-test-requires : goal.repeat-start-of-test-requires
-repeat-start-of-test-requires t c =
+pub repeat-start_of-test-requires : goal.repeat-start_of-test-requires
+repeat-start_of-test-requires t c =
     let T = while-parts c.requires.tree.3 in
     let w = T.within in
     record { some = T.body-some; within = omega arith; whole = T.room }
@@ -238,10 +238,10 @@ repeat-judge-requires t c =
     let few = c.requires.few in
     let limit = c.requires.limit in
     let begun = c.requires.begun in
-    record { tree = (c.requires.tree.1, (condition-at c.start-of-test.ensures U.test)); few = c.requires.few; small = omega arith }
+    record { tree = (c.requires.tree.1, (condition-at c.start_of-test.ensures U.test)); few = c.requires.few; small = omega arith }
 
-pub repeat-overflow-sub-end-in-Holds : goal.repeat-overflow-sub-end-in-Holds
-repeat-overflow-sub-end-in-Holds t c =
+pub repeat-overflow_sub-end-in-Holds : goal.repeat-overflow_sub-end-in-Holds
+repeat-overflow_sub-end-in-Holds t c =
     let T = while-parts c.requires.tree.3 in
     T.some
 
@@ -249,7 +249,7 @@ pub repeat-sheet-body-requires : goal.repeat-sheet-body-requires
 repeat-sheet-body-requires t c =
     let l : length c.rounds.points ≡ length c.args.points.now = omega (arith, c.rounds.auto.points) in
     let U = while-parts (as_long l c.requires.tree.3) in
-    let J = c.in-Holds.ensures c.requires.tree.1 (condition-at c.start-of-test.ensures U.test) in
+    let J = c.in-Holds.ensures c.requires.tree.1 (condition-at c.start_of-test.ensures U.test) in
     let f = U.body-falls in
     let m = c.decreases in
     (search rules, ((c.requires.tree.2, U.body), (c.requires.few, (c.requires.limit, J.2))))
@@ -258,7 +258,7 @@ pub repeat-rounds-smaller : goal.repeat-rounds-smaller
 repeat-rounds-smaller t c =
     let l : length c.rounds.points ≡ length c.args.points.now = omega (arith, c.rounds.auto.points) in
     let U = while-parts (as_long l c.requires.tree.3) in
-    let J = c.in-Holds.ensures c.requires.tree.1 (condition-at c.start-of-test.ensures U.test) in
+    let J = c.in-Holds.ensures c.requires.tree.1 (condition-at c.start_of-test.ensures U.test) in
     let N = one-more-is c.rounds.points c.requires.tree.2 c.in-Holds.tested c.args.allowance c.sheet-body.result (Ended c.in-Ended.round) c.sheet-body.new.points c.in-Ended.ensures (c.sheet-body.ensures c.requires.tree.2 U.body) in
     let i = J.1 in
     let j = N.1 in
@@ -271,7 +271,7 @@ round-on t c q h b at out p' r =
     let lc : length c.rounds.points ≡ length c.sheet-body.new.points = omega (arith, c.sheet-body.auto.points) in
     let at' = as_long lc at in
     let U = while-parts at' in
-    let J = c.in-Holds.ensures h (condition-at c.start-of-test.ensures U.test) in
+    let J = c.in-Holds.ensures h (condition-at c.start_of-test.ensures U.test) in
     let N = one-more-is c.rounds.points b c.in-Holds.tested c.args.allowance c.sheet-body.result (Ended c.in-Ended.round) c.sheet-body.new.points c.in-Ended.ensures (c.sheet-body.ensures b U.body) in
     c.rounds.invariant.1 q h b at' out p' (while-more q h b c.rounds.points c.rounds.made c.args.allowance c.in-Holds.tested c.in-Ended.round c.sheet-body.new.points J N out p' r)
 
@@ -280,26 +280,26 @@ repeat-rounds-preserved t c =
     let few = c.requires.few in
     let l : length c.rounds.points ≡ length c.args.points.now = omega (arith, c.rounds.auto.points) in
     let U = while-parts (as_long l c.requires.tree.3) in
-    let J = c.in-Holds.ensures c.requires.tree.1 (condition-at c.start-of-test.ensures U.test) in
+    let J = c.in-Holds.ensures c.requires.tree.1 (condition-at c.start_of-test.ensures U.test) in
     let N = one-more-is c.rounds.points c.requires.tree.2 c.in-Holds.tested c.args.allowance c.sheet-body.result (Ended c.in-Ended.round) c.sheet-body.new.points c.in-Ended.ensures (c.sheet-body.ensures c.requires.tree.2 U.body) in
     (N.2, λ q h b at out p' r. round-on t c q h b at out p' r)
 
-pub repeat-returns-in-Stopped-one-more : goal.repeat-returns-in-Stopped-one-more
-repeat-returns-in-Stopped-one-more t c q h b at =
+pub repeat-returns-in-Stopped-one_more : goal.repeat-returns-in-Stopped-one_more
+repeat-returns-in-Stopped-one_more t c q h b at =
     let l : length c.rounds.points ≡ length c.args.points.now = omega (arith, c.rounds.auto.points) in
     let at' = as_long l at in
     let U = while-parts at' in
-    let J = c.in-Holds.ensures h (condition-at c.start-of-test.ensures U.test) in
-    let N = one-more-is c.rounds.points b c.in-Holds.tested c.args.allowance c.sheet-body.result (Stopped c.in-Stopped-one-more.stop) c.sheet-body.new.points c.in-Stopped-one-more.ensures (c.sheet-body.ensures b U.body) in
-    c.rounds.invariant.1 q h b at' (Stopped c.in-Stopped-one-more.stop) c.sheet-body.new.points (while-body-stopped q h b c.rounds.points c.rounds.made c.args.allowance c.in-Holds.tested c.in-Stopped-one-more.stop c.sheet-body.new.points J N)
+    let J = c.in-Holds.ensures h (condition-at c.start_of-test.ensures U.test) in
+    let N = one-more-is c.rounds.points b c.in-Holds.tested c.args.allowance c.sheet-body.result (Stopped c.in-Stopped-one_more.stop) c.sheet-body.new.points c.in-Stopped-one_more.ensures (c.sheet-body.ensures b U.body) in
+    c.rounds.invariant.1 q h b at' (Stopped c.in-Stopped-one_more.stop) c.sheet-body.new.points (while-body-stopped q h b c.rounds.points c.rounds.made c.args.allowance c.in-Holds.tested c.in-Stopped-one_more.stop c.sheet-body.new.points J N)
 
-pub repeat-returns-in-Spent-one-more : goal.repeat-returns-in-Spent-one-more
-repeat-returns-in-Spent-one-more t c q h b at =
+pub repeat-returns-in-Spent-one_more : goal.repeat-returns-in-Spent-one_more
+repeat-returns-in-Spent-one_more t c q h b at =
     let l : length c.rounds.points ≡ length c.args.points.now = omega (arith, c.rounds.auto.points) in
     let at' = as_long l at in
     let U = while-parts at' in
-    let J = c.in-Holds.ensures h (condition-at c.start-of-test.ensures U.test) in
-    let N = one-more-is c.rounds.points b c.in-Holds.tested c.args.allowance c.sheet-body.result Spent c.sheet-body.new.points c.in-Spent-one-more.ensures (c.sheet-body.ensures b U.body) in
+    let J = c.in-Holds.ensures h (condition-at c.start_of-test.ensures U.test) in
+    let N = one-more-is c.rounds.points b c.in-Holds.tested c.args.allowance c.sheet-body.result Spent c.sheet-body.new.points c.in-Spent-one_more.ensures (c.sheet-body.ensures b U.body) in
     c.rounds.invariant.1 q h b at' Spent c.sheet-body.new.points (while-body-spent q h b c.rounds.points c.rounds.made c.args.allowance c.in-Holds.tested c.sheet-body.new.points c.sheet-body.new.points J N)
 
 pub repeat-returns-in-Fails : goal.repeat-returns-in-Fails
@@ -307,7 +307,7 @@ repeat-returns-in-Fails t c q h b at =
     let l : length c.rounds.points ≡ length c.args.points.now = omega (arith, c.rounds.auto.points) in
     let at' = as_long l at in
     let U = while-parts at' in
-    let J = c.in-Fails.ensures h (condition-at c.start-of-test.ensures U.test) in
+    let J = c.in-Fails.ensures h (condition-at c.start_of-test.ensures U.test) in
     c.rounds.invariant.1 q h b at' (Ended c.in-Fails.tested) c.rounds.points (while-failed q h b c.rounds.points c.rounds.made c.args.allowance c.in-Fails.tested J)
 
 pub repeat-returns-in-Stopped : goal.repeat-returns-in-Stopped
@@ -315,7 +315,7 @@ repeat-returns-in-Stopped t c q h b at =
     let l : length c.rounds.points ≡ length c.args.points.now = omega (arith, c.rounds.auto.points) in
     let at' = as_long l at in
     let U = while-parts at' in
-    let J = c.in-Stopped.ensures h (condition-at c.start-of-test.ensures U.test) in
+    let J = c.in-Stopped.ensures h (condition-at c.start_of-test.ensures U.test) in
     c.rounds.invariant.1 q h b at' (Stopped c.in-Stopped.stop) c.rounds.points (while-stopped q h b c.rounds.points c.rounds.made c.args.allowance c.in-Stopped.stop c.rounds.points J)
 
 pub repeat-returns-in-Spent : goal.repeat-returns-in-Spent
@@ -323,11 +323,11 @@ repeat-returns-in-Spent t c q h b at =
     let l : length c.rounds.points ≡ length c.args.points.now = omega (arith, c.rounds.auto.points) in
     let at' = as_long l at in
     let U = while-parts at' in
-    let J = c.in-Spent.ensures h (condition-at c.start-of-test.ensures U.test) in
+    let J = c.in-Spent.ensures h (condition-at c.start_of-test.ensures U.test) in
     c.rounds.invariant.1 q h b at' Spent c.rounds.points (while-spent q h b c.rounds.points c.rounds.made c.args.allowance c.rounds.points J)
 
-pub sheet-overflow-sub-end : goal.sheet-overflow-sub-end
-sheet-overflow-sub-end t c =
+pub sheet-overflow_sub-end : goal.sheet-overflow_sub-end
+sheet-overflow_sub-end t c =
     let K = sheet-end c.requires.tree.1 in
     K.0
 
@@ -369,7 +369,7 @@ sheet-repeat-requires t c =
 pub sheet-joint-requires : goal.sheet-joint-requires
 sheet-joint-requires t c =
     let s = sheet-kind c.requires.tree.1 in
-    let I = is-joint c.requires.tree.0 (λ e. c.in-default.not-Set (s ∙ e)) (λ e. c.in-default.not-If (s ∙ e)) (λ e. c.in-default.not-IfElse (s ∙ e)) (λ e. c.in-default.not-While (s ∙ e)) in
+    let I = is-joint c.requires.tree.0 (λ e. c.in_default.not-Set (s ∙ e)) (λ e. c.in_default.not-If (s ∙ e)) (λ e. c.in_default.not-IfElse (s ∙ e)) (λ e. c.in_default.not-While (s ∙ e)) in
     let m = c.decreases in
     (search rules, ((I.place, I.command, I.rest, subst (SheetAt c.args.rows.now c.args.end (length c.args.points.now)) I.is c.requires.tree.1), (c.requires.few, (c.requires.limit, c.requires.begun))))
 
@@ -397,8 +397,8 @@ sheet-returns-in-While t c t' at =
     let I = is-while t' k in
     subst (λ (x : Sheet). Ran c.args.points.now x c.args.spent c.args.allowance c.repeat.result c.repeat.new.points) (sym I.is) (c.repeat.ensures I.place I.test I.body (subst (SheetAt c.args.rows.now c.args.end (length c.args.points.now)) I.is at))
 
-pub sheet-returns-in-default : goal.sheet-returns-in-default
-sheet-returns-in-default t c t' at =
+pub sheet-returns-in_default : goal.sheet-returns-in_default
+sheet-returns-in_default t c t' at =
     let s = sheet-kind at in
-    let I = is-joint t' (λ e. c.in-default.not-Set (s ∙ e)) (λ e. c.in-default.not-If (s ∙ e)) (λ e. c.in-default.not-IfElse (s ∙ e)) (λ e. c.in-default.not-While (s ∙ e)) in
+    let I = is-joint t' (λ e. c.in_default.not-Set (s ∙ e)) (λ e. c.in_default.not-If (s ∙ e)) (λ e. c.in_default.not-IfElse (s ∙ e)) (λ e. c.in_default.not-While (s ∙ e)) in
     subst (λ (x : Sheet). Ran c.args.points.now x c.args.spent c.args.allowance c.joint.result c.joint.new.points) (sym I.is) (c.joint.ensures I.place I.command I.rest (subst (SheetAt c.args.rows.now c.args.end (length c.args.points.now)) I.is at))

@@ -2,4 +2,4 @@ use Rattle.screen.proofs.Telling.{front}
 use Rattle.screen.proofs.screening.copied.Goals as goal
 
 pub returns : goal.returns
-returns c = front _ _ _ c.copy-from-slice.ensures.after
+returns c = front _ _ _ c.copy_from_slice.ensures.after

@@ -13,8 +13,8 @@ use Rattle.screen.proofs.Costs.{then-done, then-stop, spent-sum}
 use Rattle.screen.proofs.Parting.{sum-size, sum-end, parted, number-work, named, operator-is}
 use Rattle.screen.proofs.sum.+sum.Goals as goal
 
-pub overflow-sub-row : goal.overflow-sub-row
-overflow-sub-row t c = (sum-end c.args.rows.now c.args.end c.requires.tree.0 c.requires.tree.1.stands).0
+pub overflow_sub-row : goal.overflow_sub-row
+overflow_sub-row t c = (sum-end c.args.rows.now c.args.end c.requires.tree.0 c.requires.tree.1.stands).0
 
 pub bounds-rows-end : goal.bounds-rows-end
 bounds-rows-end t c = let e = sum-end c.args.rows.now c.args.end c.requires.tree.0 c.requires.tree.1.stands in omega (arith, e.0, e.1)
@@ -37,27 +37,27 @@ returns-in-Name t c t' at =
     let g : to_z w32 (of_z w32 c.read.result) ≡ c.read.result = search rules in
     ap (λ (x : ℤ). done (c.args.spent + 1) x) (g ∙ c.read.ensures ∙ ap (λ (j : ℕ). get_or p j (pos 0)) at-point) ∙ sym (ap (after c.args.spent) N.work)
 
-pub overflow-sub-middle : goal.overflow-sub-middle
-overflow-sub-middle t c = (sum-end c.args.rows.now c.args.end c.requires.tree.0 c.requires.tree.1.stands).0
+pub overflow_sub-middle : goal.overflow_sub-middle
+overflow_sub-middle t c = (sum-end c.args.rows.now c.args.end c.requires.tree.0 c.requires.tree.1.stands).0
 
-pub overflow-sub-middle-in-default : goal.overflow-sub-middle-in-default
-overflow-sub-middle-in-default t c =
-    let P = parted c.requires.tree.1 c.in-default.not-Number c.in-default.not-Name in
+pub overflow_sub-middle-in_default : goal.overflow_sub-middle-in_default
+overflow_sub-middle-in_default t c =
+    let P = parted c.requires.tree.1 c.in_default.not-Number c.in_default.not-Name in
     P.two.two
 
-pub bounds-rows-end-in-default : goal.bounds-rows-end-in-default
-bounds-rows-end-in-default t c =
-    let P = parted c.requires.tree.1 c.in-default.not-Number c.in-default.not-Name in
+pub bounds-rows-end-in_default : goal.bounds-rows-end-in_default
+bounds-rows-end-in_default t c =
+    let P = parted c.requires.tree.1 c.in_default.not-Number c.in_default.not-Name in
     let e = sum-end c.args.rows.now c.args.end c.requires.tree.0 c.requires.tree.1.stands in
     omega (arith, e.0, e.1, P.two.two)
 
-pub overflow-sub-middle-in-default-2 : goal.overflow-sub-middle-in-default-2
-overflow-sub-middle-in-default-2 t c =
-    let P = parted c.requires.tree.1 c.in-default.not-Number c.in-default.not-Name in
+pub overflow_sub-middle-in_default-2 : goal.overflow_sub-middle-in_default-2
+overflow_sub-middle-in_default-2 t c =
+    let P = parted c.requires.tree.1 c.in_default.not-Number c.in_default.not-Name in
     omega (arith, P.two.last, P.two.room)
 
-pub overflow-sub-end : goal.overflow-sub-end
-overflow-sub-end t c = (sum-end c.args.rows.now c.args.end c.requires.tree.0 c.requires.tree.1.stands).0
+pub overflow_sub-end : goal.overflow_sub-end
+overflow_sub-end t c = (sum-end c.args.rows.now c.args.end c.requires.tree.0 c.requires.tree.1.stands).0
 
 -- the left part as the code finds it
 left_at : (R : List Row) (end count n : ℕ) (l : Sum) (m : ℕ) → n ≡ m → SumAt R (end - 1 - m) count l → SumAt R (end - 1 - n) count l
@@ -65,7 +65,7 @@ left_at R end count n l m e at = subst (λ (k : ℕ). SumAt R (end - 1 - k) coun
 
 pub sum-requires : goal.sum-requires
 sum-requires t c =
-    let P = parted c.requires.tree.1 c.in-default.not-Number c.in-default.not-Name in
+    let P = parted c.requires.tree.1 c.in_default.not-Number c.in_default.not-Name in
     let R = c.args.rows.now in
     let end = c.args.end in
     let at = left_at R end (length c.args.points.now) (get_or R (end - 2) blank).size P.l (sum_size P.r) P.two.last P.two.left in
@@ -77,7 +77,7 @@ sum-requires t c =
 
 pub returns-in-err-left : goal.returns-in-err-left
 returns-in-err-left t c t' at =
-    let P = parted at c.in-default.not-Number c.in-default.not-Name in
+    let P = parted at c.in_default.not-Number c.in_default.not-Name in
     let R = c.args.rows.now in
     let end = c.args.end in
     let p = c.args.points.now in
@@ -86,9 +86,9 @@ returns-in-err-left t c t' at =
     let h = c.in-err-left.ensures P.l la in
     rw (E.1, E.2) (then-stop c.args.spent _ _ _ (sum_work P.l p) _ h ∙ ap (λ (x : Sum). after c.args.spent (sum_work x p)) (sym P.is))
 
-pub sum-requires-in-default : goal.sum-requires-in-default
-sum-requires-in-default t c =
-    let P = parted c.requires.tree.1 c.in-default.not-Number c.in-default.not-Name in
+pub sum-requires-in_default : goal.sum-requires-in_default
+sum-requires-in_default t c =
+    let P = parted c.requires.tree.1 c.in_default.not-Number c.in_default.not-Name in
     let R = c.args.rows.now in
     let end = c.args.end in
     let la = left_at R end (length c.args.points.now) (get_or R (end - 2) blank).size P.l (sum_size P.r) P.two.last P.two.left in
@@ -101,7 +101,7 @@ sum-requires-in-default t c =
 
 pub returns-in-err-right : goal.returns-in-err-right
 returns-in-err-right t c t' at =
-    let P = parted at c.in-default.not-Number c.in-default.not-Name in
+    let P = parted at c.in_default.not-Number c.in_default.not-Name in
     let R = c.args.rows.now in
     let end = c.args.end in
     let p = c.args.points.now in
@@ -113,7 +113,7 @@ returns-in-err-right t c t' at =
 
 pub apply-requires : goal.apply-requires
 apply-requires t c =
-    let P = parted c.requires.tree.1 c.in-default.not-Number c.in-default.not-Name in
+    let P = parted c.requires.tree.1 c.in_default.not-Number c.in_default.not-Name in
     let R = c.args.rows.now in
     let end = c.args.end in
     let la = left_at R end (length c.args.points.now) (get_or R (end - 2) blank).size P.l (sum_size P.r) P.two.last P.two.left in
@@ -125,20 +125,20 @@ apply-requires t c =
 
 pub returns-in-ok-right : goal.returns-in-ok-right
 returns-in-ok-right t c t' at =
-    let P = parted at c.in-default.not-Number c.in-default.not-Name in
+    let P = parted at c.in_default.not-Number c.in_default.not-Name in
     let R = c.args.rows.now in
     let end = c.args.end in
     let p = c.args.points.now in
     let la = left_at R end (length p) (get_or R (end - 2) blank).size P.l (sum_size P.r) P.two.last P.two.left in
     let h = c.in-ok-left.ensures P.l la in
     let k = c.in-ok-right.ensures P.r P.two.right in
-    let o : c.operator-of.result ≡ P.op = c.operator-of.ensures ∙ ap (λ (x : Row). operator_at x.kind) P.two.own ∙ operator-is P.op in
+    let o : c.operator_of.result ≡ P.op = c.operator_of.ensures ∙ ap (λ (x : Row). operator_at x.kind) P.two.own ∙ operator-is P.op in
     let q = ap (λ (x : Row). x.place) P.two.own in
     let fl : to_z w32 (of_z w32 c.in-ok-left.left) ≡ c.in-ok-left.left = search rules in
     let fr : to_z w32 (of_z w32 c.in-ok-right.right) ≡ c.in-ok-right.right = search rules in
     c.apply.ensures
-    ∙ ap (λ (x : ℤ). after c.in-ok-right.both (step (get_or R (end - 1) blank).place (worked c.operator-of.result x (to_z w32 (of_z w32 c.in-ok-right.right))))) fl
-    ∙ ap (λ (x : ℤ). after c.in-ok-right.both (step (get_or R (end - 1) blank).place (worked c.operator-of.result c.in-ok-left.left x))) fr
+    ∙ ap (λ (x : ℤ). after c.in-ok-right.both (step (get_or R (end - 1) blank).place (worked c.operator_of.result x (to_z w32 (of_z w32 c.in-ok-right.right))))) fl
+    ∙ ap (λ (x : ℤ). after c.in-ok-right.both (step (get_or R (end - 1) blank).place (worked c.operator_of.result c.in-ok-left.left x))) fr
     ∙ ap (λ (x : Operator). after c.in-ok-right.both (step (get_or R (end - 1) blank).place (worked x c.in-ok-left.left c.in-ok-right.right))) o
     ∙ ap (λ (x : ℕ). after c.in-ok-right.both (step x (worked P.op c.in-ok-left.left c.in-ok-right.right))) q
     ∙ sym (then-done c.in-ok-left.before c.in-ok-right.both c.in-ok-right.right (sum_work P.r p) (λ y. step P.place (worked P.op c.in-ok-left.left y)) k)

@@ -6,7 +6,7 @@ pub returns-then-bytes-end : goal.returns-then-bytes-end
 returns-then-bytes-end c =
     let bs = c.args.bytes.now in
     let n = c.in-ok-count.count in
-    ap Err c.not-right.ensures ∙ some_after (6 + 7 * n) bs _ (omega arith) ∙ read_all bs c.in-ok-points.points n _ _ _ c.in-ok-points.ensures.value c.in-ok-count.ensures.value c.in-ok-instructions.ensures c.in-ok--count.ensures.value c.in-ok-places.ensures
+    ap Err c.not_right.ensures ∙ some_after (6 + 7 * n) bs _ (omega arith) ∙ read_all bs c.in-ok-points.points n _ _ _ c.in-ok-points.ensures.value c.in-ok-count.ensures.value c.in-ok-instructions.ensures c.in-ok--count.ensures.value c.in-ok-places.ensures
 
 pub returns : goal.returns
 returns c =

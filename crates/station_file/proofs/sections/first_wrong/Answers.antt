@@ -9,10 +9,10 @@ use Rattle.station_file.proofs.sections.first_wrong.Goals as goal
 pub loop-i-init : goal.loop-i-init
 loop-i-init c = (omega arith, refl, each_none (RightInstruction c.args.points (length c.args.instructions.now)))
 
-pub returns-then-not-may-stand : goal.returns-then-not-may-stand
-returns-then-not-may-stand c =
+pub returns-then-not-may_stand : goal.returns-then-not-may_stand
+returns-then-not-may_stand c =
     let h : c.loop-i.i < length c.args.instructions.now = omega arith in
-    let e = wrong-here c.args.points (length c.args.instructions.now) c.loop-i.i c.args.instructions.now _ h (sym c.if-not-may-stand.ensures.value) in
+    let e = wrong-here c.args.points (length c.args.instructions.now) c.loop-i.i c.args.instructions.now _ h (sym c.if-not-may_stand.ensures.value) in
     record {
       value = sym (c.loop-i.invariant.1 ∙ e);
       few = λ n. let z : ◌≡◌ {A = ℕ} 0 1 = cc n in absurd (omega arith);
@@ -23,10 +23,10 @@ pub loop-i-preserved : goal.loop-i-preserved
 loop-i-preserved c =
     let is = c.args.instructions.now in
     let h : c.loop-i.i < length is = omega arith in
-    let both = sym c.if-not-may-stand.ensures.value in
+    let both = sym c.if-not-may_stand.ensures.value in
     let parts = and_parts _ _ both in
     let low = ltb-true c.loop-i.i 1024 parts.0 in
-    (omega arith, c.loop-i.invariant.1 ∙ wrong-later c.args.points (length is) c.loop-i.i is _ h both, each_more (RightInstruction c.args.points (length is)) c.loop-i.i is _ h c.loop-i.invariant.2 (parts.1, c.if-not-may-stand.ensures.held))
+    (omega arith, c.loop-i.invariant.1 ∙ wrong-later c.args.points (length is) c.loop-i.i is _ h both, each_more (RightInstruction c.args.points (length is)) c.loop-i.i is _ h c.loop-i.invariant.2 (parts.1, c.if-not-may_stand.ensures.held))
 
 pub returns : goal.returns
 returns c =

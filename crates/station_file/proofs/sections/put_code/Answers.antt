@@ -8,7 +8,7 @@ loop-i-init c = sym (put-nil _ _)
 
 pub loop-i-preserved : goal.loop-i-preserved
 loop-i-preserved c =
-    put-more instruction_bytes 5 (λ _. refl) c.args.at c.loop-i.i c.args.instructions.now c.args.bytes.now c.loop-i.bytes _ _ (omega arith) (omega arith) c.loop-i.invariant c.put-instruction.ensures
+    put-more instruction_bytes 5 (λ _. refl) c.args.at c.loop-i.i c.args.instructions.now c.args.bytes.now c.loop-i.bytes _ _ (omega arith) (omega arith) c.loop-i.invariant c.put_instruction.ensures
 
 pub returns : goal.returns
 returns c = put_all instruction_bytes 5 (λ _. refl) c.args.at c.loop-i.i c.args.instructions.now c.args.bytes.now _ (omega arith) c.loop-i.invariant

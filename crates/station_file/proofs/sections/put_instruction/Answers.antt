@@ -9,5 +9,5 @@ returns c =
     let at = c.args.at in
     let bs = c.args.bytes.now in
     let code : c.code.result ≡ code_of c.args.instruction = c.code.ensures in
-    let operand : c.operand-of.result ≡ operand_of c.args.instruction = c.operand-of.ensures in
-    c.put-four.ensures ∙ simp (code, operand, put_byte at (code_of c.args.instruction) bs (omega arith)) (put-put at _ (code_of c.args.instruction ∷ []) (four_bytes (operand_of c.args.instruction)) bs (omega arith) (omega arith))
+    let operand : c.operand_of.result ≡ operand_of c.args.instruction = c.operand_of.ensures in
+    c.put_four.ensures ∙ simp (code, operand, put_byte at (code_of c.args.instruction) bs (omega arith)) (put-put at _ (code_of c.args.instruction ∷ []) (four_bytes (operand_of c.args.instruction)) bs (omega arith) (omega arith))

@@ -3,7 +3,7 @@ use Rattle.std.proofs.lemmas.Int.{to_z-of_z}
 use Rattle.banks.specs.Laws.{Direct, AsOne}
 use Rattle.banks.proofs.Overlaid.{overlaid-nil, overlaid-more, overlaid-all, wrote-sets}
 use Rattle.banks.proofs.Drafts.{is-direct, is_one}
-use Rattle.banks.proofs.overlay.Overlay.keep.Goals.{in-Some, in-default}
+use Rattle.banks.proofs.overlay.Overlay.keep.Goals.{in-Some, in_default}
 use Rattle.banks.proofs.overlay.Overlay.keep.Goals as goal
 
 pub loop-point-init : goal.loop-point-init
@@ -16,7 +16,7 @@ loop-point-preserved g c =
     let m = overlaid-more (g.B.Bank.points c.args.bank.now) c.args.self.now.held c.loop-point.point h in
     elim c.match-self-point.branch [
       | in-Some w ↦ (grind (arith, to_z-of_z, wrote-sets), grind arith)
-      | in-default w ↦ (grind arith, grind arith)
+      | in_default w ↦ (grind arith, grind arith)
     ]
 
 pub returns : goal.returns

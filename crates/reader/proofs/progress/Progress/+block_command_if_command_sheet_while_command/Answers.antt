@@ -21,59 +21,59 @@ block-returns-in-err-sheet t c =
     let p = err_from_is_err_and c.from-residual-in-err-sheet.result c.from-residual-in-err-sheet.ensures.1 in
     rw (p.1, p.2) (block_refused c.in-ok-seen.ensures (entered c.in-ok-enter.ensures) c.in-err-sheet.ensures)
 
-pub block-returns-in-default : goal.block-returns-in-default
-block-returns-in-default t c = block-open c.in-ok-seen.ensures (entered c.in-ok-enter.ensures) c.in-ok-sheet.ensures c.see-end.ensures (λ e. c.in-default.not-CloseBlock (c.command-start.ensures ∙ e)) c.refusal.ensures
+pub block-returns-in_default : goal.block-returns-in_default
+block-returns-in_default t c = block-open c.in-ok-seen.ensures (entered c.in-ok-enter.ensures) c.in-ok-sheet.ensures c.see-end.ensures (λ e. c.in_default.not-CloseBlock (c.command_start.ensures ∙ e)) c.refusal.ensures
 
 pub block-returns : goal.block-returns
 block-returns t c = block_read c.in-ok-seen.ensures (entered c.in-ok-enter.ensures) c.in-ok-sheet.ensures c.see-end.ensures (sym c.in-CloseBlock.ensures) c.pass.ensures
 
 pub command-returns-in-CloseBlock : goal.command-returns-in-CloseBlock
-command-returns-in-CloseBlock t c = ⊎_elim (λ e. closed-early c.args.self.now c.see-seen.ensures (sym c.command-start.ensures ∙ e)) (λ e. ended-early c.args.self.now c.see-seen.ensures (sym c.command-start.ensures ∙ e)) c.in-CloseBlock.is
+command-returns-in-CloseBlock t c = ⊎_elim (λ e. closed-early c.args.self.now c.see-seen.ensures (sym c.command_start.ensures ∙ e)) (λ e. ended-early c.args.self.now c.see-seen.ensures (sym c.command_start.ensures ∙ e)) c.in-CloseBlock.is
 
 pub command-returns-in-Neither : goal.command-returns-in-Neither
 command-returns-in-Neither t c = no-command c.args.self.now c.in-Neither.cause c.see-seen.ensures (sym c.in-Neither.ensures)
 
-pub if-command-returns-in-err-bracketed : goal.if-command-returns-in-err-bracketed
-if-command-returns-in-err-bracketed t c =
+pub if_command-returns-in-err-bracketed : goal.if_command-returns-in-err-bracketed
+if_command-returns-in-err-bracketed t c =
     let p = err_from_is_err_and c.from-residual.result c.from-residual.ensures.1 in
     rw (p.1, p.2) (if-no-head c.requires.begins c.pass.ensures c.in-err-bracketed.ensures)
 
-pub if-command-returns-in-err-block : goal.if-command-returns-in-err-block
-if-command-returns-in-err-block t c =
+pub if_command-returns-in-err-block : goal.if_command-returns-in-err-block
+if_command-returns-in-err-block t c =
     let p = err_from_is_err_and c.from-residual-in-err-block.result c.from-residual-in-err-block.ensures.1 in
     rw (p.1, p.2) (if-no-block c.requires.begins c.pass.ensures c.in-ok-bracketed.ensures c.in-err-block.ensures)
 
-pub if-command-returns-in-default : goal.if-command-returns-in-default
-if-command-returns-in-default t c = when-read c.requires.begins c.pass.ensures c.in-ok-bracketed.ensures c.in-ok-block.ensures c.see-next.ensures (λ e. c.in-default.not-Else (c.mark.ensures ∙ e)) c.tell.ensures
+pub if_command-returns-in_default : goal.if_command-returns-in_default
+if_command-returns-in_default t c = when-read c.requires.begins c.pass.ensures c.in-ok-bracketed.ensures c.in-ok-block.ensures c.see-next.ensures (λ e. c.in_default.not-Else (c.mark.ensures ∙ e)) c.tell.ensures
 
-pub if-command-returns-in-err-block-2 : goal.if-command-returns-in-err-block-2
-if-command-returns-in-err-block-2 t c =
+pub if_command-returns-in-err-block-2 : goal.if_command-returns-in-err-block-2
+if_command-returns-in-err-block-2 t c =
     let p = err_from_is_err_and c.from-residual-in-err-block-2.result c.from-residual-in-err-block-2.ensures.1 in
     rw (p.1, p.2) (else-no-block c.requires.begins c.pass.ensures c.in-ok-bracketed.ensures c.in-ok-block.ensures c.see-next.ensures (sym c.in-Else.ensures) c.pass-2.ensures c.in-err-block-2.ensures)
 
-pub if-command-returns : goal.if-command-returns
-if-command-returns t c = choose-read c.requires.begins c.pass.ensures c.in-ok-bracketed.ensures c.in-ok-block.ensures c.see-next.ensures (sym c.in-Else.ensures) c.pass-2.ensures c.in-ok-block-2.ensures c.tell-2.ensures
+pub if_command-returns : goal.if_command-returns
+if_command-returns t c = choose-read c.requires.begins c.pass.ensures c.in-ok-bracketed.ensures c.in-ok-block.ensures c.see-next.ensures (sym c.in-Else.ensures) c.pass-2.ensures c.in-ok-block-2.ensures c.tell-2.ensures
 
 pub sheet-returns-in-CloseBlock : goal.sheet-returns-in-CloseBlock
-sheet-returns-in-CloseBlock t c = ⊎_elim (λ e. one-command command.CloseBlock c.in-ok-command.ensures c.see-seen.ensures (sym c.command-start.ensures ∙ e) tt) (λ e. one-command command.End c.in-ok-command.ensures c.see-seen.ensures (sym c.command-start.ensures ∙ e) tt) c.in-CloseBlock.is
+sheet-returns-in-CloseBlock t c = ⊎_elim (λ e. one-command command.CloseBlock c.in-ok-command.ensures c.see-seen.ensures (sym c.command_start.ensures ∙ e) tt) (λ e. one-command command.End c.in-ok-command.ensures c.see-seen.ensures (sym c.command_start.ensures ∙ e) tt) c.in-CloseBlock.is
 
 pub sheet-returns-in-err-sheet : goal.sheet-returns-in-err-sheet
 sheet-returns-in-err-sheet t c =
     let p = err_from_is_err_and c.from-residual-in-err-sheet.result c.from-residual-in-err-sheet.ensures.1 in
-    rw (p.1, p.2) (rest-refused c.in-ok-command.ensures c.see-seen.ensures (λ e. c.in-default.not-CloseBlock (c.command-start.ensures ∙ e)) (λ e. c.in-default.not-End (c.command-start.ensures ∙ e)) c.in-err-sheet.ensures)
+    rw (p.1, p.2) (rest-refused c.in-ok-command.ensures c.see-seen.ensures (λ e. c.in_default.not-CloseBlock (c.command_start.ensures ∙ e)) (λ e. c.in_default.not-End (c.command_start.ensures ∙ e)) c.in-err-sheet.ensures)
 
 pub sheet-returns-in-ok-sheet : goal.sheet-returns-in-ok-sheet
 sheet-returns-in-ok-sheet t c = more-commands c.in-ok-command.ensures c.see-seen.ensures c.in-ok-sheet.ensures c.tell.ensures
 
-pub while-command-returns-in-err-bracketed : goal.while-command-returns-in-err-bracketed
-while-command-returns-in-err-bracketed t c =
+pub while_command-returns-in-err-bracketed : goal.while_command-returns-in-err-bracketed
+while_command-returns-in-err-bracketed t c =
     let p = err_from_is_err_and c.from-residual.result c.from-residual.ensures.1 in
     rw (p.1, p.2) (while-no-head c.requires.begins c.pass.ensures c.in-err-bracketed.ensures)
 
-pub while-command-returns-in-err-block : goal.while-command-returns-in-err-block
-while-command-returns-in-err-block t c =
+pub while_command-returns-in-err-block : goal.while_command-returns-in-err-block
+while_command-returns-in-err-block t c =
     let p = err_from_is_err_and c.from-residual-in-err-block.result c.from-residual-in-err-block.ensures.1 in
     rw (p.1, p.2) (while-no-block c.requires.begins c.pass.ensures c.in-ok-bracketed.ensures c.in-err-block.ensures)
 
-pub while-command-returns : goal.while-command-returns
-while-command-returns t c = while-read c.requires.begins c.pass.ensures c.in-ok-bracketed.ensures c.in-ok-block.ensures c.tell.ensures
+pub while_command-returns : goal.while_command-returns
+while_command-returns t c = while-read c.requires.begins c.pass.ensures c.in-ok-bracketed.ensures c.in-ok-block.ensures c.tell.ensures

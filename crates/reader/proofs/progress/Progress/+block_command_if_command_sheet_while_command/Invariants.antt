@@ -5,11 +5,11 @@ use Rattle.reader.proofs.progress.Progress.+block_command_if_command_sheet_while
 abbrev pub decreases-block : goal.decreases-block
 decreases-block l = 4 * (length l.text.now - l.self.now.position.at)
 
-abbrev pub decreases-if-command : goal.decreases-if-command
-decreases-if-command l = 4 * (length l.text.now - l.self.now.position.at) + 1
+abbrev pub decreases-if_command : goal.decreases-if_command
+decreases-if_command l = 4 * (length l.text.now - l.self.now.position.at) + 1
 
-abbrev pub decreases-while-command : goal.decreases-while-command
-decreases-while-command l = 4 * (length l.text.now - l.self.now.position.at) + 1
+abbrev pub decreases-while_command : goal.decreases-while_command
+decreases-while_command l = 4 * (length l.text.now - l.self.now.position.at) + 1
 
 abbrev pub decreases-command : goal.decreases-command
 decreases-command l = 4 * (length l.text.now - l.self.now.position.at) + 2

@@ -36,8 +36,8 @@ condition-returns-in-err-condition t c =
 pub condition-returns-in-ok-condition : goal.condition-returns-in-ok-condition
 condition-returns-in-ok-condition t c = two-conjuncts c.see-seen.ensures (sym c.in-Or.ensures) c.in-ok-conjunct.ensures c.pass.ensures c.in-ok-condition.ensures c.tell.ensures
 
-pub condition-returns-in-default : goal.condition-returns-in-default
-condition-returns-in-default t c = one-conjunct c.see-seen.ensures (λ e. c.in-default.not-Or (c.link.ensures ∙ e)) c.in-ok-conjunct.ensures
+pub condition-returns-in_default : goal.condition-returns-in_default
+condition-returns-in_default t c = one-conjunct c.see-seen.ensures (λ e. c.in_default.not-Or (c.link.ensures ∙ e)) c.in-ok-conjunct.ensures
 
 pub conjunct-returns-in-err-conjunct : goal.conjunct-returns-in-err-conjunct
 conjunct-returns-in-err-conjunct t c =
@@ -47,8 +47,8 @@ conjunct-returns-in-err-conjunct t c =
 pub conjunct-returns-in-ok-conjunct : goal.conjunct-returns-in-ok-conjunct
 conjunct-returns-in-ok-conjunct t c = two-literals c.see-seen.ensures (sym c.in-And.ensures) c.in-ok-literal.ensures c.pass.ensures c.in-ok-conjunct.ensures c.tell.ensures
 
-pub conjunct-returns-in-default : goal.conjunct-returns-in-default
-conjunct-returns-in-default t c = one-literal c.see-seen.ensures (λ e. c.in-default.not-And (c.link.ensures ∙ e)) c.in-ok-literal.ensures
+pub conjunct-returns-in_default : goal.conjunct-returns-in_default
+conjunct-returns-in_default t c = one-literal c.see-seen.ensures (λ e. c.in_default.not-And (c.link.ensures ∙ e)) c.in-ok-literal.ensures
 
 pub literal-returns-in-err-literal : goal.literal-returns-in-err-literal
 literal-returns-in-err-literal t c =
@@ -61,11 +61,11 @@ literal-returns-in-Truth t c = truth-read c.in-Truth.value (to_z w32 (of_z w32 c
 pub literal-returns-in-ok-literal : goal.literal-returns-in-ok-literal
 literal-returns-in-ok-literal t c = negation-read c.see-seen.ensures (sym c.in-Not.ensures) c.pass.ensures c.in-ok-literal.ensures c.tell.ensures
 
-pub literal-returns-then-opens-condition : goal.literal-returns-then-opens-condition
-literal-returns-then-opens-condition t c = bracket-answers c.args.self.now c.bracketed.new.self c.args.rows.now c.bracketed.new.rows c.bracketed.result c.see-seen.ensures (sym c.in-Bracket.ensures) c.if-opens-condition.ensures c.bracketed.ensures
+pub literal-returns-then-opens_condition : goal.literal-returns-then-opens_condition
+literal-returns-then-opens_condition t c = bracket-answers c.args.self.now c.bracketed.new.self c.args.rows.now c.bracketed.new.rows c.bracketed.result c.see-seen.ensures (sym c.in-Bracket.ensures) c.if-opens_condition.ensures c.bracketed.ensures
 
-pub literal-returns-else-opens-condition : goal.literal-returns-else-opens-condition
-literal-returns-else-opens-condition t c = within-answers c.args.self.now c.comparison.new.self c.args.rows.now c.comparison.new.rows c.comparison.result c.see-seen.ensures (sym c.in-Bracket.ensures) c.if-opens-condition.ensures c.comparison.ensures
+pub literal-returns-else-opens_condition : goal.literal-returns-else-opens_condition
+literal-returns-else-opens_condition t c = within-answers c.args.self.now c.comparison.new.self c.args.rows.now c.comparison.new.rows c.comparison.result c.see-seen.ensures (sym c.in-Bracket.ensures) c.if-opens_condition.ensures c.comparison.ensures
 
 pub literal-returns-in-Sum : goal.literal-returns-in-Sum
 literal-returns-in-Sum t c = sum-answers c.args.self.now c.comparison-in-Sum.new.self c.args.rows.now c.comparison-in-Sum.new.rows c.comparison-in-Sum.result c.see-seen.ensures (sym c.in-Sum.ensures) c.comparison-in-Sum.ensures

@@ -68,13 +68,13 @@ prod-more-preserved t c =
       omega (arith, next.wrote.depth, c.more.invariant.2),
       omega (arith, next.wrote.count, c.more.invariant.3),
       omega (arith, next.wrote.moved, c.more.invariant.4),
-      λ a old first took. prod-turn (c.more.invariant.5 a old first took) c.see-seen.ensures (sym c.in-Multiplicative.ensures) c.pass.ensures next c.operator-kind.ensures first c.tell.ensures,
+      λ a old first took. prod-turn (c.more.invariant.5 a old first took) c.see-seen.ensures (sym c.in-Multiplicative.ensures) c.pass.ensures next c.operator_kind.ensures first c.tell.ensures,
     )
 
-pub sum-returns-in-default : goal.sum-returns-in-default
-sum-returns-in-default t c =
+pub sum-returns-in_default : goal.sum-returns-in_default
+sum-returns-in_default t c =
     let took : SumSoFar (lines_of c.args.names.now.text.now) c.args.text.now c.args.self.now c.args.rows.now c.more.self c.more.rows = c.more.invariant.5 c.args.self.now c.args.rows.now refl (sum_first c.in-ok-prod.ensures.0 c.in-ok-prod.ensures.1) in
-    sum-read took c.see-seen.ensures (λ o e. c.in-default.not-Additive o (c.join.ensures ∙ e))
+    sum-read took c.see-seen.ensures (λ o e. c.in_default.not-Additive o (c.join.ensures ∙ e))
 
 pub sum-returns-in-err-prod-2 : goal.sum-returns-in-err-prod-2
 sum-returns-in-err-prod-2 t c =
@@ -100,5 +100,5 @@ sum-more-preserved t c =
       omega (arith, next.wrote.depth, c.more.invariant.2),
       omega (arith, next.wrote.count, c.more.invariant.3),
       omega (arith, next.wrote.moved, c.more.invariant.4),
-      λ a old first took. sum-turn (c.more.invariant.5 a old first took) c.see-seen.ensures (sym c.in-Additive.ensures) c.pass.ensures next c.in-ok-prod-2.ensures.1 c.operator-kind.ensures first c.tell.ensures,
+      λ a old first took. sum-turn (c.more.invariant.5 a old first took) c.see-seen.ensures (sym c.in-Additive.ensures) c.pass.ensures next c.in-ok-prod-2.ensures.1 c.operator_kind.ensures first c.tell.ensures,
     )

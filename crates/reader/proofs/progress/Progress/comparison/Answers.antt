@@ -6,8 +6,8 @@ use Rattle.reader.specs.Progressing.{told}
 use Rattle.reader.proofs.Conditioning.{no-comparison, right-refused, two-sums, number-back}
 use Rattle.reader.proofs.progress.Progress.comparison.Goals as goal
 
-pub returns-in-default : goal.returns-in-default
-returns-in-default c = no-comparison c.in-ok-sum.ensures c.see-seen.ensures (sym c.in-default.ensures) c.refusal.ensures
+pub returns-in_default : goal.returns-in_default
+returns-in_default c = no-comparison c.in-ok-sum.ensures c.see-seen.ensures (sym c.in_default.ensures) c.refusal.ensures
 
 pub returns-in-err-sum-2 : goal.returns-in-err-sum-2
 returns-in-err-sum-2 c =

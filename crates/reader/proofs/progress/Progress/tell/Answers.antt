@@ -12,6 +12,6 @@ returns c =
     let size : n - c.args.first + 1 ≡ suc (n - c.args.first) = omega arith in
     let told : ℤ → ℕ → List Row = λ v s. set c.args.rows.now n (row c.args.kind v s c.args.place) in
     let pair : List Row → ℕ → List Row × Progress = λ rs k. (rs, record { position = c.args.self.now.position; count = k; depth = c.args.self.now.depth }) in
-    let rows : c.put-row.new.rows ≡ told (to_z w32 (of_z w32 c.args.value)) (n - c.args.first + 1) = c.put-row.ensures in
+    let rows : c.put_row.new.rows ≡ told (to_z w32 (of_z w32 c.args.value)) (n - c.args.first + 1) = c.put_row.ensures in
     ap (λ rs. pair rs (n + 1)) (rows ∙ ap (λ v. told v (n - c.args.first + 1)) (to_z-of_z w32 c.args.value c.ranges.value) ∙ ap (told c.args.value) size)
     ∙ ap (pair (told c.args.value (suc (n - c.args.first)))) more

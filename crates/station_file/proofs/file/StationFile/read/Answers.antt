@@ -7,7 +7,7 @@ use Rattle.station_file.proofs.file.StationFile.read.Goals as goal
 pub returns : goal.returns
 returns c =
     let bs = c.args.bytes.now in
-    let e = c.fields-of.ensures in
+    let e = c.fields_of.ensures in
     record {
       value = e;
       back = λ f file. e ∙ ap reading file.laid ∙ file-back f file.right;

@@ -6,19 +6,19 @@ use Rattle.station_file.proofs.Sectioned.{length-places, no_room, is-wrong, is-w
 use Rattle.station_file.proofs.Whole.{completes}
 use Rattle.station_file.proofs.state.AfterInstructions.places.Goals as goal
 
-pub returns-then-saturating-sub-length : goal.returns-then-saturating-sub-length
-returns-then-saturating-sub-length c =
+pub returns-then-saturating_sub-length : goal.returns-then-saturating_sub-length
+returns-then-saturating_sub-length c =
     let s = c.args.self in
     let ps = c.args.places.now in
     let bs = c.args.bytes.now in
-    record { value = no_room s (finished s ps) s.at (2 + 2 * length ps) (places_section ps) (wrong_places s.count (length ps)) bs (length-places ps) _ c.no-space.ensures (omega arith); back = tt }
+    record { value = no_room s (finished s ps) s.at (2 + 2 * length ps) (places_section ps) (wrong_places s.count (length ps)) bs (length-places ps) _ c.no_space.ensures (omega arith); back = tt }
 
 pub returns-in-Some : goal.returns-in-Some
 returns-in-Some c =
     let s = c.args.self in
     let ps = c.args.places.now in
     let bs = c.args.bytes.now in
-    record { value = is-wrong s (finished s ps) s.at (2 + 2 * length ps) (places_section ps) (wrong_places s.count (length ps)) bs (length-places ps) _ _ c.not-right.ensures (omega arith) (sym c.in-Some.ensures); back = tt }
+    record { value = is-wrong s (finished s ps) s.at (2 + 2 * length ps) (places_section ps) (wrong_places s.count (length ps)) bs (length-places ps) _ _ c.not_right.ensures (omega arith) (sym c.in-Some.ensures); back = tt }
 
 pub returns : goal.returns
 returns c =
@@ -26,7 +26,7 @@ returns c =
     let ps = c.args.places.now in
     let bs = c.args.bytes.now in
     let u = ap (λ n. s.at + n) (sym (length-places ps)) in
-    let none = sym c.in-default.ensures in
+    let none = sym c.in_default.ensures in
     let many = as_many s.count (length ps) none in
-    let put_is = places-put s.at s.count ps bs _ _ (omega arith) (sym many) c.put-two.ensures c.put-places.ensures in
+    let put_is = places-put s.at s.count ps bs _ _ (omega arith) (sym many) c.put_two.ensures c.put_places.ensures in
     record { value = is-written s (finished s ps) s.at (2 + 2 * length ps) (places_section ps) (wrong_places s.count (length ps)) bs (length-places ps) _ _ (ap (λ n. record { length = n }) u) (omega arith) none put_is; back = completes s ps bs _ many (omega arith) (λ i. (c.type-inv.places i).fits) put_is }

@@ -5,13 +5,13 @@ use Rattle.station_file.proofs.Sectioned.{length-code, no_room, is-wrong, is-wri
 use Rattle.station_file.proofs.Whole.{begins}
 use Rattle.station_file.proofs.state.Begin.instructions.Goals as goal
 
-pub returns-then-saturating-sub-size : goal.returns-then-saturating-sub-size
-returns-then-saturating-sub-size c =
+pub returns-then-saturating_sub-size : goal.returns-then-saturating_sub-size
+returns-then-saturating_sub-size c =
     let s = c.args.self in
     let p = c.args.points in
     let is = c.args.instructions.now in
     let bs = c.args.bytes.now in
-    record { value = no_room s (after_code s p is) s.at (4 + 5 * length is) (code_section p is) (wrong_code p is) bs (length-code p is) _ c.no-space.ensures (omega arith); opens = tt }
+    record { value = no_room s (after_code s p is) s.at (4 + 5 * length is) (code_section p is) (wrong_code p is) bs (length-code p is) _ c.no_space.ensures (omega arith); opens = tt }
 
 pub returns-in-Some : goal.returns-in-Some
 returns-in-Some c =
@@ -19,7 +19,7 @@ returns-in-Some c =
     let p = c.args.points in
     let is = c.args.instructions.now in
     let bs = c.args.bytes.now in
-    record { value = is-wrong s (after_code s p is) s.at (4 + 5 * length is) (code_section p is) (wrong_code p is) bs (length-code p is) _ _ c.not-right.ensures (omega arith) (sym c.in-Some.ensures.value); opens = tt }
+    record { value = is-wrong s (after_code s p is) s.at (4 + 5 * length is) (code_section p is) (wrong_code p is) bs (length-code p is) _ _ c.not_right.ensures (omega arith) (sym c.in-Some.ensures.value); opens = tt }
 
 pub returns : goal.returns
 returns c =
@@ -28,7 +28,7 @@ returns c =
     let is = c.args.instructions.now in
     let bs = c.args.bytes.now in
     let u = ap (λ n. s.at + n) (sym (length-code p is)) in
-    let none = sym c.in-default.ensures.value in
-    let few = c.in-default.ensures.few refl in
-    let put_is = code_put s.at p (length is) is bs _ _ _ (omega arith) refl c.put-two.ensures c.put-two-2.ensures c.put-code.ensures in
-    record { value = is-written s (after_code s p is) s.at (4 + 5 * length is) (code_section p is) (wrong_code p is) bs (length-code p is) _ _ (ap (λ n. record { at = n; count = length is }) u) (omega arith) none put_is; opens = begins s p is bs _ none few.1 (c.in-default.ensures.right refl) put_is }
+    let none = sym c.in_default.ensures.value in
+    let few = c.in_default.ensures.few refl in
+    let put_is = code_put s.at p (length is) is bs _ _ _ (omega arith) refl c.put_two.ensures c.put_two-2.ensures c.put_code.ensures in
+    record { value = is-written s (after_code s p is) s.at (4 + 5 * length is) (code_section p is) (wrong_code p is) bs (length-code p is) _ _ (ap (λ n. record { at = n; count = length is }) u) (omega arith) none put_is; opens = begins s p is bs _ none few.1 (c.in_default.ensures.right refl) put_is }
