@@ -33,14 +33,14 @@ few-names list l e a =
 
 pub read_under-requires : goal.read_under-requires
 read_under-requires c =
-    few-names c.args.list.now c.in-ok-names.names.text.now c.in-ok-names.ensures.value c.in-ok-names.ensures.accepts
+    few-names c.args.list.now c.in_ok-names.names.text.now c.in_ok-names.ensures.value c.in_ok-names.ensures.accepts
 
-pub returns-in-err-names : goal.returns-in-err-names
-returns-in-err-names c =
+pub returns-in_err-names : goal.returns-in_err-names
+returns-in_err-names c =
     let p = err_from_is_err_and c.from-residual.result c.from-residual.ensures.1 in
     let old : List Row = c.args.rows.now in
     let e : (c.from-residual.result, old) ≡ reading c.args.list.now c.args.sheet.now old =
-    ap (λ r. (r, old)) p.1 ∙ ap (λ f. (Err f, old)) p.2 ∙ list-refused c.args.list.now c.args.sheet.now old c.in-err-names.field-0.0 c.in-err-names.ensures.value in
+    ap (λ r. (r, old)) p.1 ∙ ap (λ f. (Err f, old)) p.2 ∙ list-refused c.args.list.now c.args.sheet.now old c.in_err-names.field-0.0 c.in_err-names.ensures.value in
     record { value = e; exactly = exactly _ _ _ _ _ e }
 
 pub returns-in-Err : goal.returns-in-Err
@@ -49,7 +49,7 @@ returns-in-Err c =
     let long : length c.read_under.new.rows ≡ length old = c.read_under.auto.rows ∙ c.clear.auto.rows in
     let e : (Err c.in-Err.fault, c.clear-in-Err.new.rows) ≡ reading c.args.list.now c.args.sheet.now old =
     ap (λ rs. (Err c.in-Err.fault, rs)) (c.clear-in-Err.ensures ∙ ap (λ n. replicate n blank) long)
-    ∙ sheet-refused c.args.list.now c.args.sheet.now old c.in-ok-names.names.text.now c.in-ok-names.ensures.value c.in-Err.fault c.in-Err.ensures in
+    ∙ sheet-refused c.args.list.now c.args.sheet.now old c.in_ok-names.names.text.now c.in_ok-names.ensures.value c.in-Err.fault c.in-Err.ensures in
     record { value = e; exactly = exactly _ _ _ _ _ e }
 
 pub returns-then-needed-gt-MOST_ROWS : goal.returns-then-needed-gt-MOST_ROWS
@@ -57,12 +57,12 @@ returns-then-needed-gt-MOST_ROWS c =
     let old : List Row = c.args.rows.now in
     let n : ℕ = c.in-Ok.needed in
     let long : length c.read_under.new.rows ≡ length old = c.read_under.auto.rows ∙ c.clear.auto.rows in
-    let P : List Row → Type 0 = λ rs. UnderRead (lines_of c.in-ok-names.names.text.now) c.args.sheet.now rs c.read_under.new.rows n in
+    let P : List Row → Type 0 = λ rs. UnderRead (lines_of c.in_ok-names.names.text.now) c.args.sheet.now rs c.read_under.new.rows n in
     let under : P (blanks old) = subst P c.clear.ensures c.in-Ok.ensures in
     let more : (2048 < n) ⊎ (length old < n) = ⊎_elim (λ h. inl h) (λ h. inr (omega (arith, h.1))) c.then-needed-gt-MOST_ROWS.either in
     let e : (Err (too_few_slots n), c.clear-then-needed-gt-MOST_ROWS.new.rows) ≡ reading c.args.list.now c.args.sheet.now old =
     ap (λ rs. (Err (too_few_slots n), rs)) (c.clear-then-needed-gt-MOST_ROWS.ensures ∙ ap (λ k. replicate k blank) long)
-    ∙ slots-refused c.args.list.now c.args.sheet.now old c.in-ok-names.names.text.now c.in-ok-names.ensures.value c.read_under.new.rows n under more in
+    ∙ slots-refused c.args.list.now c.args.sheet.now old c.in_ok-names.names.text.now c.in_ok-names.ensures.value c.read_under.new.rows n under more in
     record { value = e; exactly = exactly _ _ _ _ _ e }
 
 pub returns : goal.returns
@@ -70,9 +70,9 @@ returns c =
     let old : List Row = c.args.rows.now in
     let n : ℕ = c.in-Ok.needed in
     let long : length c.read_under.new.rows ≡ length old = c.read_under.auto.rows ∙ c.clear.auto.rows in
-    let P : List Row → Type 0 = λ rs. UnderRead (lines_of c.in-ok-names.names.text.now) c.args.sheet.now rs c.read_under.new.rows n in
+    let P : List Row → Type 0 = λ rs. UnderRead (lines_of c.in_ok-names.names.text.now) c.args.sheet.now rs c.read_under.new.rows n in
     let under : P (blanks old) = subst P c.clear.ensures c.in-Ok.ensures in
     let room : n ≤ length old = omega (arith, c.if-needed-rows.false) in
     let e : (Ok n, c.read_under.new.rows) ≡ reading c.args.list.now c.args.sheet.now old =
-    sheet-read c.args.list.now c.args.sheet.now old c.in-ok-names.names.text.now c.in-ok-names.ensures.value c.read_under.new.rows n under c.if-needed-gt-MOST_ROWS.false room in
+    sheet-read c.args.list.now c.args.sheet.now old c.in_ok-names.names.text.now c.in_ok-names.ensures.value c.read_under.new.rows n under c.if-needed-gt-MOST_ROWS.false room in
     record { value = e; exactly = exactly _ _ _ _ _ e }

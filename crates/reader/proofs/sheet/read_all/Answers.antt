@@ -7,21 +7,21 @@ use Rattle.reader.proofs.Writing.{sheet-long}
 use Rattle.reader.proofs.Wholly.{all-ahead, ends-here, goes_on}
 use Rattle.reader.proofs.sheet.read_all.Goals as goal
 
-pub returns-in-err-sheet : goal.returns-in-err-sheet
-returns-in-err-sheet c =
+pub returns-in_err-sheet : goal.returns-in_err-sheet
+returns-in_err-sheet c =
     let p = err_from_is_err_and c.from-residual.result c.from-residual.ensures.1 in
-    rw (p.1, p.2) (ap (λ ts. run ts 0 start) (all-ahead _ _) ∙ c.in-err-sheet.ensures [] whole tt)
+    rw (p.1, p.2) (ap (λ ts. run ts 0 start) (all-ahead _ _) ∙ c.in_err-sheet.ensures [] whole tt)
 
 pub returns-in_default : goal.returns-in_default
 returns-in_default c =
-    let took = c.in-ok-sheet.ensures in
+    let took = c.in_ok-sheet.ensures in
     ap (λ ts. run ts 0 start) (all-ahead _ _) ∙ took.moves [] whole
     ∙ goes_on c.see-end.ensures c.sheet.new.self.depth took.tree took.ends (λ e. c.in_default.not-End (c.command_start.ensures ∙ e))
     ∙ ap (λ (r : Refusal). refused r.cause r.place) (sym c.refusal.ensures)
 
 pub returns : goal.returns
 returns c =
-    let took = c.in-ok-sheet.ensures in
+    let took = c.in_ok-sheet.ensures in
     record {
       tree = took.tree;
       is =

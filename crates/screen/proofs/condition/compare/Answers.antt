@@ -66,7 +66,7 @@ sum-requires-2 c =
     let own = ap (λ (x : Row). x.size) C.own in
     let small = c.requires.small in
     let n = C.right-size in
-    let before = spent-sum P.2 c.args.points.now c.args.spent c.in-ok-left.before c.in-ok-left.left (c.in-ok-left.ensures P.2 C.left) in
+    let before = spent-sum P.2 c.args.points.now c.args.spent c.in_ok-left.before c.in_ok-left.left (c.in_ok-left.ensures P.2 C.left) in
     record { tree = (P.3, C.right); small = omega arith }
 
 pub overflow_add-result : goal.overflow_add-result
@@ -75,40 +75,40 @@ overflow_add-result c =
     let C = compared P.4 in
     let own = ap (λ (x : Row). x.size) C.own in
     let small = c.requires.small in
-    let before = spent-sum P.2 c.args.points.now c.args.spent c.in-ok-left.before c.in-ok-left.left (c.in-ok-left.ensures P.2 C.left) in
-    let both = spent-sum P.3 c.args.points.now c.in-ok-left.before c.in-ok-right.both c.in-ok-right.right (c.in-ok-right.ensures P.3 C.right) in
+    let before = spent-sum P.2 c.args.points.now c.args.spent c.in_ok-left.before c.in_ok-left.left (c.in_ok-left.ensures P.2 C.left) in
+    let both = spent-sum P.3 c.args.points.now c.in_ok-left.before c.in_ok-right.both c.in_ok-right.right (c.in_ok-right.ensures P.3 C.right) in
     search rules
 
-pub returns-in-err-left : goal.returns-in-err-left
-returns-in-err-left c q k l r at =
+pub returns-in_err-left : goal.returns-in_err-left
+returns-in_err-left c q k l r at =
     let R = c.args.rows.now in
     let p = c.args.points.now in
     let C = compared at in
     let E = err_from_is_err_and c.from-residual.result c.from-residual.ensures.1 in
-    rw (E.1, E.2) (then-stop c.args.spent _ _ _ (sum_work l p) _ (c.in-err-left.ensures l C.left))
+    rw (E.1, E.2) (then-stop c.args.spent _ _ _ (sum_work l p) _ (c.in_err-left.ensures l C.left))
 
-pub returns-in-err-right : goal.returns-in-err-right
-returns-in-err-right c q k l r at =
+pub returns-in_err-right : goal.returns-in_err-right
+returns-in_err-right c q k l r at =
     let R = c.args.rows.now in
     let p = c.args.points.now in
     let C = compared at in
-    let E = err_from_is_err_and c.from-residual-in-err-right.result c.from-residual-in-err-right.ensures.1 in
-    let h = c.in-ok-left.ensures l C.left in
-    let e = c.in-err-right.ensures r C.right in
-    rw (E.1, E.2) (then-stop c.in-ok-left.before _ _ _ (sum_work r p) _ e ∙ sym (then-done c.args.spent c.in-ok-left.before c.in-ok-left.left (sum_work l p) _ h))
+    let E = err_from_is_err_and c.from-residual-in_err-right.result c.from-residual-in_err-right.ensures.1 in
+    let h = c.in_ok-left.ensures l C.left in
+    let e = c.in_err-right.ensures r C.right in
+    rw (E.1, E.2) (then-stop c.in_ok-left.before _ _ _ (sum_work r p) _ e ∙ sym (then-done c.args.spent c.in_ok-left.before c.in_ok-left.left (sum_work l p) _ h))
 
 pub returns : goal.returns
 returns c q k l r at =
     let R = c.args.rows.now in
     let p = c.args.points.now in
     let C = compared at in
-    let h = c.in-ok-left.ensures l C.left in
-    let e = c.in-ok-right.ensures r C.right in
+    let h = c.in_ok-left.ensures l C.left in
+    let e = c.in_ok-right.ensures r C.right in
     let fv : to_z w32 (of_z w32 (get_or R (c.args.end - 1) blank).value) ≡ (get_or R (c.args.end - 1) blank).value = search rules in
-    let fl : to_z w32 (of_z w32 c.in-ok-left.left) ≡ c.in-ok-left.left = search rules in
-    let fr : to_z w32 (of_z w32 c.in-ok-right.right) ≡ c.in-ok-right.right = search rules in
+    let fl : to_z w32 (of_z w32 c.in_ok-left.left) ≡ c.in_ok-left.left = search rules in
+    let fr : to_z w32 (of_z w32 c.in_ok-right.right) ≡ c.in_ok-right.right = search rules in
     let hb = c.holds_by.ensures k (fv ∙ ap (λ (x : Row). x.value) C.own) in
-    let v : c.holds_by.result ≡ holds k c.in-ok-left.left c.in-ok-right.right = hb ∙ ap (λ (x : ℤ). holds k x (to_z w32 (of_z w32 c.in-ok-right.right))) fl ∙ ap (holds k c.in-ok-left.left) fr in
-    ap (λ (x : Bool). done (c.in-ok-right.both + 1) x) v
-    ∙ sym (then-done c.in-ok-left.before c.in-ok-right.both c.in-ok-right.right (sum_work r p) (λ y. done 1 (holds k c.in-ok-left.left y)) e)
-    ∙ sym (then-done c.args.spent c.in-ok-left.before c.in-ok-left.left (sum_work l p) (λ x. then (sum_work r p) (λ y. done 1 (holds k x y))) h)
+    let v : c.holds_by.result ≡ holds k c.in_ok-left.left c.in_ok-right.right = hb ∙ ap (λ (x : ℤ). holds k x (to_z w32 (of_z w32 c.in_ok-right.right))) fl ∙ ap (holds k c.in_ok-left.left) fr in
+    ap (λ (x : Bool). done (c.in_ok-right.both + 1) x) v
+    ∙ sym (then-done c.in_ok-left.before c.in_ok-right.both c.in_ok-right.right (sum_work r p) (λ y. done 1 (holds k c.in_ok-left.left y)) e)
+    ∙ sym (then-done c.args.spent c.in_ok-left.before c.in_ok-left.left (sum_work l p) (λ x. then (sum_work r p) (λ y. done 1 (holds k x y))) h)

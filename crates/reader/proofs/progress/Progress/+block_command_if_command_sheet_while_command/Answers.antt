@@ -6,26 +6,26 @@ use Rattle.reader.proofs.Entering.{entered, barred}
 use Rattle.reader.proofs.Commanding.{when-read, choose-read, while-read, if-no-head, if-no-block, else-no-block, while-no-head, while-no-block, block-missed, block-crowded, block_refused, block-open, block_read, closed-early, ended-early, no-command, one-command, more-commands, rest-refused}
 use Rattle.reader.proofs.progress.Progress.+block_command_if_command_sheet_while_command.Goals as goal
 
-pub block-returns-in-err-seen : goal.block-returns-in-err-seen
-block-returns-in-err-seen t c =
+pub block-returns-in_err-seen : goal.block-returns-in_err-seen
+block-returns-in_err-seen t c =
     let p = err_from_is_err_and c.from-residual.result c.from-residual.ensures.1 in
-    rw (p.1, p.2) (block-missed c.in-err-seen.ensures)
+    rw (p.1, p.2) (block-missed c.in_err-seen.ensures)
 
-pub block-returns-in-err-enter : goal.block-returns-in-err-enter
-block-returns-in-err-enter t c =
-    let p = err_from_is_err_and c.from-residual-in-err-enter.result c.from-residual-in-err-enter.ensures.1 in
-    rw (p.1, p.2) (block-crowded c.in-ok-seen.ensures (barred c.in-err-enter.ensures))
+pub block-returns-in_err-enter : goal.block-returns-in_err-enter
+block-returns-in_err-enter t c =
+    let p = err_from_is_err_and c.from-residual-in_err-enter.result c.from-residual-in_err-enter.ensures.1 in
+    rw (p.1, p.2) (block-crowded c.in_ok-seen.ensures (barred c.in_err-enter.ensures))
 
-pub block-returns-in-err-sheet : goal.block-returns-in-err-sheet
-block-returns-in-err-sheet t c =
-    let p = err_from_is_err_and c.from-residual-in-err-sheet.result c.from-residual-in-err-sheet.ensures.1 in
-    rw (p.1, p.2) (block_refused c.in-ok-seen.ensures (entered c.in-ok-enter.ensures) c.in-err-sheet.ensures)
+pub block-returns-in_err-sheet : goal.block-returns-in_err-sheet
+block-returns-in_err-sheet t c =
+    let p = err_from_is_err_and c.from-residual-in_err-sheet.result c.from-residual-in_err-sheet.ensures.1 in
+    rw (p.1, p.2) (block_refused c.in_ok-seen.ensures (entered c.in_ok-enter.ensures) c.in_err-sheet.ensures)
 
 pub block-returns-in_default : goal.block-returns-in_default
-block-returns-in_default t c = block-open c.in-ok-seen.ensures (entered c.in-ok-enter.ensures) c.in-ok-sheet.ensures c.see-end.ensures (λ e. c.in_default.not-CloseBlock (c.command_start.ensures ∙ e)) c.refusal.ensures
+block-returns-in_default t c = block-open c.in_ok-seen.ensures (entered c.in_ok-enter.ensures) c.in_ok-sheet.ensures c.see-end.ensures (λ e. c.in_default.not-CloseBlock (c.command_start.ensures ∙ e)) c.refusal.ensures
 
 pub block-returns : goal.block-returns
-block-returns t c = block_read c.in-ok-seen.ensures (entered c.in-ok-enter.ensures) c.in-ok-sheet.ensures c.see-end.ensures (sym c.in-CloseBlock.ensures) c.pass.ensures
+block-returns t c = block_read c.in_ok-seen.ensures (entered c.in_ok-enter.ensures) c.in_ok-sheet.ensures c.see-end.ensures (sym c.in-CloseBlock.ensures) c.pass.ensures
 
 pub command-returns-in-CloseBlock : goal.command-returns-in-CloseBlock
 command-returns-in-CloseBlock t c = ⊎_elim (λ e. closed-early c.args.self.now c.see-seen.ensures (sym c.command_start.ensures ∙ e)) (λ e. ended-early c.args.self.now c.see-seen.ensures (sym c.command_start.ensures ∙ e)) c.in-CloseBlock.is
@@ -33,47 +33,47 @@ command-returns-in-CloseBlock t c = ⊎_elim (λ e. closed-early c.args.self.now
 pub command-returns-in-Neither : goal.command-returns-in-Neither
 command-returns-in-Neither t c = no-command c.args.self.now c.in-Neither.cause c.see-seen.ensures (sym c.in-Neither.ensures)
 
-pub if_command-returns-in-err-bracketed : goal.if_command-returns-in-err-bracketed
-if_command-returns-in-err-bracketed t c =
+pub if_command-returns-in_err-bracketed : goal.if_command-returns-in_err-bracketed
+if_command-returns-in_err-bracketed t c =
     let p = err_from_is_err_and c.from-residual.result c.from-residual.ensures.1 in
-    rw (p.1, p.2) (if-no-head c.requires.begins c.pass.ensures c.in-err-bracketed.ensures)
+    rw (p.1, p.2) (if-no-head c.requires.begins c.pass.ensures c.in_err-bracketed.ensures)
 
-pub if_command-returns-in-err-block : goal.if_command-returns-in-err-block
-if_command-returns-in-err-block t c =
-    let p = err_from_is_err_and c.from-residual-in-err-block.result c.from-residual-in-err-block.ensures.1 in
-    rw (p.1, p.2) (if-no-block c.requires.begins c.pass.ensures c.in-ok-bracketed.ensures c.in-err-block.ensures)
+pub if_command-returns-in_err-block : goal.if_command-returns-in_err-block
+if_command-returns-in_err-block t c =
+    let p = err_from_is_err_and c.from-residual-in_err-block.result c.from-residual-in_err-block.ensures.1 in
+    rw (p.1, p.2) (if-no-block c.requires.begins c.pass.ensures c.in_ok-bracketed.ensures c.in_err-block.ensures)
 
 pub if_command-returns-in_default : goal.if_command-returns-in_default
-if_command-returns-in_default t c = when-read c.requires.begins c.pass.ensures c.in-ok-bracketed.ensures c.in-ok-block.ensures c.see-next.ensures (λ e. c.in_default.not-Else (c.mark.ensures ∙ e)) c.tell.ensures
+if_command-returns-in_default t c = when-read c.requires.begins c.pass.ensures c.in_ok-bracketed.ensures c.in_ok-block.ensures c.see-next.ensures (λ e. c.in_default.not-Else (c.mark.ensures ∙ e)) c.tell.ensures
 
-pub if_command-returns-in-err-block-2 : goal.if_command-returns-in-err-block-2
-if_command-returns-in-err-block-2 t c =
-    let p = err_from_is_err_and c.from-residual-in-err-block-2.result c.from-residual-in-err-block-2.ensures.1 in
-    rw (p.1, p.2) (else-no-block c.requires.begins c.pass.ensures c.in-ok-bracketed.ensures c.in-ok-block.ensures c.see-next.ensures (sym c.in-Else.ensures) c.pass-2.ensures c.in-err-block-2.ensures)
+pub if_command-returns-in_err-block-2 : goal.if_command-returns-in_err-block-2
+if_command-returns-in_err-block-2 t c =
+    let p = err_from_is_err_and c.from-residual-in_err-block-2.result c.from-residual-in_err-block-2.ensures.1 in
+    rw (p.1, p.2) (else-no-block c.requires.begins c.pass.ensures c.in_ok-bracketed.ensures c.in_ok-block.ensures c.see-next.ensures (sym c.in-Else.ensures) c.pass-2.ensures c.in_err-block-2.ensures)
 
 pub if_command-returns : goal.if_command-returns
-if_command-returns t c = choose-read c.requires.begins c.pass.ensures c.in-ok-bracketed.ensures c.in-ok-block.ensures c.see-next.ensures (sym c.in-Else.ensures) c.pass-2.ensures c.in-ok-block-2.ensures c.tell-2.ensures
+if_command-returns t c = choose-read c.requires.begins c.pass.ensures c.in_ok-bracketed.ensures c.in_ok-block.ensures c.see-next.ensures (sym c.in-Else.ensures) c.pass-2.ensures c.in_ok-block-2.ensures c.tell-2.ensures
 
 pub sheet-returns-in-CloseBlock : goal.sheet-returns-in-CloseBlock
-sheet-returns-in-CloseBlock t c = ⊎_elim (λ e. one-command command.CloseBlock c.in-ok-command.ensures c.see-seen.ensures (sym c.command_start.ensures ∙ e) tt) (λ e. one-command command.End c.in-ok-command.ensures c.see-seen.ensures (sym c.command_start.ensures ∙ e) tt) c.in-CloseBlock.is
+sheet-returns-in-CloseBlock t c = ⊎_elim (λ e. one-command command.CloseBlock c.in_ok-command.ensures c.see-seen.ensures (sym c.command_start.ensures ∙ e) tt) (λ e. one-command command.End c.in_ok-command.ensures c.see-seen.ensures (sym c.command_start.ensures ∙ e) tt) c.in-CloseBlock.is
 
-pub sheet-returns-in-err-sheet : goal.sheet-returns-in-err-sheet
-sheet-returns-in-err-sheet t c =
-    let p = err_from_is_err_and c.from-residual-in-err-sheet.result c.from-residual-in-err-sheet.ensures.1 in
-    rw (p.1, p.2) (rest-refused c.in-ok-command.ensures c.see-seen.ensures (λ e. c.in_default.not-CloseBlock (c.command_start.ensures ∙ e)) (λ e. c.in_default.not-End (c.command_start.ensures ∙ e)) c.in-err-sheet.ensures)
+pub sheet-returns-in_err-sheet : goal.sheet-returns-in_err-sheet
+sheet-returns-in_err-sheet t c =
+    let p = err_from_is_err_and c.from-residual-in_err-sheet.result c.from-residual-in_err-sheet.ensures.1 in
+    rw (p.1, p.2) (rest-refused c.in_ok-command.ensures c.see-seen.ensures (λ e. c.in_default.not-CloseBlock (c.command_start.ensures ∙ e)) (λ e. c.in_default.not-End (c.command_start.ensures ∙ e)) c.in_err-sheet.ensures)
 
-pub sheet-returns-in-ok-sheet : goal.sheet-returns-in-ok-sheet
-sheet-returns-in-ok-sheet t c = more-commands c.in-ok-command.ensures c.see-seen.ensures c.in-ok-sheet.ensures c.tell.ensures
+pub sheet-returns-in_ok-sheet : goal.sheet-returns-in_ok-sheet
+sheet-returns-in_ok-sheet t c = more-commands c.in_ok-command.ensures c.see-seen.ensures c.in_ok-sheet.ensures c.tell.ensures
 
-pub while_command-returns-in-err-bracketed : goal.while_command-returns-in-err-bracketed
-while_command-returns-in-err-bracketed t c =
+pub while_command-returns-in_err-bracketed : goal.while_command-returns-in_err-bracketed
+while_command-returns-in_err-bracketed t c =
     let p = err_from_is_err_and c.from-residual.result c.from-residual.ensures.1 in
-    rw (p.1, p.2) (while-no-head c.requires.begins c.pass.ensures c.in-err-bracketed.ensures)
+    rw (p.1, p.2) (while-no-head c.requires.begins c.pass.ensures c.in_err-bracketed.ensures)
 
-pub while_command-returns-in-err-block : goal.while_command-returns-in-err-block
-while_command-returns-in-err-block t c =
-    let p = err_from_is_err_and c.from-residual-in-err-block.result c.from-residual-in-err-block.ensures.1 in
-    rw (p.1, p.2) (while-no-block c.requires.begins c.pass.ensures c.in-ok-bracketed.ensures c.in-err-block.ensures)
+pub while_command-returns-in_err-block : goal.while_command-returns-in_err-block
+while_command-returns-in_err-block t c =
+    let p = err_from_is_err_and c.from-residual-in_err-block.result c.from-residual-in_err-block.ensures.1 in
+    rw (p.1, p.2) (while-no-block c.requires.begins c.pass.ensures c.in_ok-bracketed.ensures c.in_err-block.ensures)
 
 pub while_command-returns : goal.while_command-returns
-while_command-returns t c = while-read c.requires.begins c.pass.ensures c.in-ok-bracketed.ensures c.in-ok-block.ensures c.tell.ensures
+while_command-returns t c = while-read c.requires.begins c.pass.ensures c.in_ok-bracketed.ensures c.in_ok-block.ensures c.tell.ensures

@@ -11,24 +11,24 @@ use Rattle.reader.proofs.Nexts.{name-taken, additive-taken, multiplicative-taken
 use Rattle.reader.proofs.Summed.{number_read, name-read, no-factor, bracket-barred, bracket-refused, bracket-unclosed, bracket-read, prod-first, prod-refused, prod-turn, sum_first, sum-refused, sum-turn, sum-read}
 use Rattle.reader.proofs.progress.Progress.+factor_prod_sum.Goals as goal
 
-pub factor-returns-in-err-enter : goal.factor-returns-in-err-enter
-factor-returns-in-err-enter t c =
+pub factor-returns-in_err-enter : goal.factor-returns-in_err-enter
+factor-returns-in_err-enter t c =
     let p = err_from_is_err_and c.from-residual.result c.from-residual.ensures.1 in
-    rw (p.1, p.2) (bracket-barred c.see-seen.ensures (sym c.in-Bracket.ensures) (barred c.in-err-enter.ensures))
+    rw (p.1, p.2) (bracket-barred c.see-seen.ensures (sym c.in-Bracket.ensures) (barred c.in_err-enter.ensures))
 
-pub factor-returns-in-err-sum : goal.factor-returns-in-err-sum
-factor-returns-in-err-sum t c =
-    let p = err_from_is_err_and c.from-residual-in-err-sum.result c.from-residual-in-err-sum.ensures.1 in
-    rw (p.1, p.2) (bracket-refused c.see-seen.ensures (sym c.in-Bracket.ensures) (entered c.in-ok-enter.ensures) c.in-err-sum.ensures)
+pub factor-returns-in_err-sum : goal.factor-returns-in_err-sum
+factor-returns-in_err-sum t c =
+    let p = err_from_is_err_and c.from-residual-in_err-sum.result c.from-residual-in_err-sum.ensures.1 in
+    rw (p.1, p.2) (bracket-refused c.see-seen.ensures (sym c.in-Bracket.ensures) (entered c.in_ok-enter.ensures) c.in_err-sum.ensures)
 
-pub factor-returns-in-err-expect : goal.factor-returns-in-err-expect
-factor-returns-in-err-expect t c =
-    let p = err_from_is_err_and c.from-residual-in-err-expect.result c.from-residual-in-err-expect.ensures.1 in
-    rw (p.1, p.2) (bracket-unclosed c.see-seen.ensures (sym c.in-Bracket.ensures) (entered c.in-ok-enter.ensures) c.in-ok-sum.ensures c.in-err-expect.ensures)
+pub factor-returns-in_err-expect : goal.factor-returns-in_err-expect
+factor-returns-in_err-expect t c =
+    let p = err_from_is_err_and c.from-residual-in_err-expect.result c.from-residual-in_err-expect.ensures.1 in
+    rw (p.1, p.2) (bracket-unclosed c.see-seen.ensures (sym c.in-Bracket.ensures) (entered c.in_ok-enter.ensures) c.in_ok-sum.ensures c.in_err-expect.ensures)
 
-pub factor-returns-in-ok-expect : goal.factor-returns-in-ok-expect
-factor-returns-in-ok-expect t c =
-    bracket-read _ c.see-seen.ensures (sym c.in-Bracket.ensures) (entered c.in-ok-enter.ensures) c.in-ok-sum.ensures c.in-ok-expect.ensures refl refl refl
+pub factor-returns-in_ok-expect : goal.factor-returns-in_ok-expect
+factor-returns-in_ok-expect t c =
+    bracket-read _ c.see-seen.ensures (sym c.in-Bracket.ensures) (entered c.in_ok-enter.ensures) c.in_ok-sum.ensures c.in_ok-expect.ensures refl refl refl
 
 pub factor-returns-in-Number : goal.factor-returns-in-Number
 factor-returns-in-Number t c =
@@ -44,18 +44,18 @@ factor-returns-in-Name t c =
 pub factor-returns-in-Neither : goal.factor-returns-in-Neither
 factor-returns-in-Neither t c = no-factor c.args.self.now c.see-seen.ensures (sym c.in-Neither.ensures)
 
-pub prod-returns-in-err-factor-2 : goal.prod-returns-in-err-factor-2
-prod-returns-in-err-factor-2 t c =
-    let p = err_from_is_err_and c.from-residual-in-err-factor-2.result c.from-residual-in-err-factor-2.ensures.1 in
-    let took : TookProd (lines_of c.args.names.now.text.now) c.args.text.now c.args.self.now c.args.rows.now c.more.self c.more.rows = c.more.invariant.5 c.args.self.now c.args.rows.now refl (prod-first c.in-ok-factor.ensures) in
-    rw (p.1, p.2) (prod-refused took c.see-seen.ensures (sym c.in-Multiplicative.ensures) c.pass.ensures c.in-err-factor-2.ensures)
+pub prod-returns-in_err-factor-2 : goal.prod-returns-in_err-factor-2
+prod-returns-in_err-factor-2 t c =
+    let p = err_from_is_err_and c.from-residual-in_err-factor-2.result c.from-residual-in_err-factor-2.ensures.1 in
+    let took : TookProd (lines_of c.args.names.now.text.now) c.args.text.now c.args.self.now c.args.rows.now c.more.self c.more.rows = c.more.invariant.5 c.args.self.now c.args.rows.now refl (prod-first c.in_ok-factor.ensures) in
+    rw (p.1, p.2) (prod-refused took c.see-seen.ensures (sym c.in-Multiplicative.ensures) c.pass.ensures c.in_err-factor-2.ensures)
 
 pub prod-more-preserved : goal.prod-more-preserved
 prod-more-preserved t c =
     let y : Progress = c.more.self in
     let z : Progress = c.factor-in-more.new.self in
     let s : Seen = c.see-seen.result in
-    let next = c.in-ok-factor-2.ensures in
+    let next = c.in_ok-factor-2.ensures in
     let lt : y.position.at < s.end = further _ c.see-seen.ensures (multiplicative-taken (sym c.in-Multiplicative.ensures)) tt in
     let n : c.pass.new.self.count ≡ y.count = ap (λ (p : Progress). p.count) c.pass.ensures in
     let d : c.pass.new.self.depth ≡ y.depth = ap (λ (p : Progress). p.depth) c.pass.ensures in
@@ -73,21 +73,21 @@ prod-more-preserved t c =
 
 pub sum-returns-in_default : goal.sum-returns-in_default
 sum-returns-in_default t c =
-    let took : SumSoFar (lines_of c.args.names.now.text.now) c.args.text.now c.args.self.now c.args.rows.now c.more.self c.more.rows = c.more.invariant.5 c.args.self.now c.args.rows.now refl (sum_first c.in-ok-prod.ensures.0 c.in-ok-prod.ensures.1) in
+    let took : SumSoFar (lines_of c.args.names.now.text.now) c.args.text.now c.args.self.now c.args.rows.now c.more.self c.more.rows = c.more.invariant.5 c.args.self.now c.args.rows.now refl (sum_first c.in_ok-prod.ensures.0 c.in_ok-prod.ensures.1) in
     sum-read took c.see-seen.ensures (λ o e. c.in_default.not-Additive o (c.join.ensures ∙ e))
 
-pub sum-returns-in-err-prod-2 : goal.sum-returns-in-err-prod-2
-sum-returns-in-err-prod-2 t c =
-    let p = err_from_is_err_and c.from-residual-in-err-prod-2.result c.from-residual-in-err-prod-2.ensures.1 in
-    let took : SumSoFar (lines_of c.args.names.now.text.now) c.args.text.now c.args.self.now c.args.rows.now c.more.self c.more.rows = c.more.invariant.5 c.args.self.now c.args.rows.now refl (sum_first c.in-ok-prod.ensures.0 c.in-ok-prod.ensures.1) in
-    rw (p.1, p.2) (sum-refused took c.see-seen.ensures (sym c.in-Additive.ensures) c.pass.ensures c.in-err-prod-2.ensures)
+pub sum-returns-in_err-prod-2 : goal.sum-returns-in_err-prod-2
+sum-returns-in_err-prod-2 t c =
+    let p = err_from_is_err_and c.from-residual-in_err-prod-2.result c.from-residual-in_err-prod-2.ensures.1 in
+    let took : SumSoFar (lines_of c.args.names.now.text.now) c.args.text.now c.args.self.now c.args.rows.now c.more.self c.more.rows = c.more.invariant.5 c.args.self.now c.args.rows.now refl (sum_first c.in_ok-prod.ensures.0 c.in_ok-prod.ensures.1) in
+    rw (p.1, p.2) (sum-refused took c.see-seen.ensures (sym c.in-Additive.ensures) c.pass.ensures c.in_err-prod-2.ensures)
 
 pub sum-more-preserved : goal.sum-more-preserved
 sum-more-preserved t c =
     let y : Progress = c.more.self in
     let z : Progress = c.prod-in-more.new.self in
     let s : Seen = c.see-seen.result in
-    let next = c.in-ok-prod-2.ensures.0 in
+    let next = c.in_ok-prod-2.ensures.0 in
     let lt : y.position.at < s.end = further _ c.see-seen.ensures (additive-taken (sym c.in-Additive.ensures)) tt in
     let n : c.pass.new.self.count ≡ y.count = ap (λ (p : Progress). p.count) c.pass.ensures in
     let d : c.pass.new.self.depth ≡ y.depth = ap (λ (p : Progress). p.depth) c.pass.ensures in
@@ -100,5 +100,5 @@ sum-more-preserved t c =
       omega (arith, next.wrote.depth, c.more.invariant.2),
       omega (arith, next.wrote.count, c.more.invariant.3),
       omega (arith, next.wrote.moved, c.more.invariant.4),
-      λ a old first took. sum-turn (c.more.invariant.5 a old first took) c.see-seen.ensures (sym c.in-Additive.ensures) c.pass.ensures next c.in-ok-prod-2.ensures.1 c.operator_kind.ensures first c.tell.ensures,
+      λ a old first took. sum-turn (c.more.invariant.5 a old first took) c.see-seen.ensures (sym c.in-Additive.ensures) c.pass.ensures next c.in_ok-prod-2.ensures.1 c.operator_kind.ensures first c.tell.ensures,
     )
