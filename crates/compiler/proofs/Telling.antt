@@ -5,7 +5,7 @@ use Rattle.instructions.specs.declared.instruction.Instruction.{Instruction}
 use Rattle.tables.specs.declared.row.Row.{Row}
 use Rattle.tables.specs.Trees.{Sum, number, name, work, Condition, truth, compare, negate, connect, Command, set, when, choose, while, Sheet, only, joint}
 use Rattle.tables.specs.Rows.{row, sum_rows, condition_rows, command_rows, sheet_rows, sum_size, condition_size, command_size, sheet_size}
-use Rattle.tables.proofs.OneTree.{one-tree}
+use Rattle.tables.proofs.OneTree.{one_tree}
 use Rattle.folds.specs.CodeLengths.{sum_length, condition_length, command_length, sheet_length}
 use Rattle.compiler.specs.Code.{sum_code, condition_code, command_code, sheet_code, instructions_of}
 use Rattle.compiler.specs.Bare.{bare_sum, bare_condition, bare_command, bare_sheet, bare_rows}
@@ -119,7 +119,7 @@ mutual
 -- equal tables, equal sheets
 
 bare-same : (t u : Sheet) → bare_rows (sheet_rows t) ≡ bare_rows (sheet_rows u) → bare_sheet t ≡ bare_sheet u
-bare-same t u e = one-tree (bare_rows (sheet_rows u)) (bare_sheet t) (bare_sheet u) (rows-sheet t ∙ e) (rows-sheet u)
+bare-same t u e = one_tree (bare_rows (sheet_rows u)) (bare_sheet t) (bare_sheet u) (rows-sheet t ∙ e) (rows-sheet u)
 
 pub one_code_lem : (rows : List Row) (r : Result ℕ Fault) (instructions : List Instruction) (places : List ℕ) (t : Sheet) → sheet_rows t ≡ rows → LaysCode rows r instructions places → OneCode rows r instructions
 one_code_lem rows r instructions places t listed laid n is =

@@ -129,8 +129,8 @@ back t =
     ∙ pass-sheet tree_sums tree_rest t [] []
     ∙ ap (λ (n : Node). Some (n ∷ [])) (itself-sheet t)
 
-pub one-tree : (rows : List Row) → OneTree rows
-one-tree rows t u e f =
+pub one_tree : (rows : List Row) → OneTree rows
+one_tree rows t u e f =
     let h : Some (sheet_node t ∷ []) ≡ Some (sheet_node u ∷ []) = sym (back t) ∙ ap (λ (l : List Row). passes tree_sums tree_rest l []) (e ∙ sym f) ∙ back u in
     let n : sheet_node t ≡ sheet_node u = cc in
     sym (node-sheet t) ∙ ap as_sheet n ∙ node-sheet u

@@ -7,7 +7,7 @@ use Rattle.tables.specs.Tables.{Table, Accepts, OneTree}
 use Rattle.tables.specs.Checks.{is_table, table_checked, no_table_fault, too_many_points}
 use Rattle.tables.proofs.Standing.{accepts-table}
 use Rattle.tables.proofs.Growing.{only-tables}
-use Rattle.tables.proofs.OneTree.{one-tree}
+use Rattle.tables.proofs.OneTree.{one_tree}
 
 accepts-at : (c : ℕ) (rows : List Row) (t few : Bool) → is_table c rows ≡ t → leb c 64 ≡ few → Accepts c rows (cond t (cond few (Ok rows) (Err (too_many_points c))) (Err no_table_fault))
 accepts-at c rows true true e f =
@@ -24,7 +24,7 @@ accepts c rows = accepts-at c rows (is_table c rows) (leb c 64) refl refl
 pub record Judged (c : ℕ) (rows : List Row) (r : Bool) : Type 0 where
   pub value : r ≡ is_table c rows
   pub accepts : Accepts c rows (table_checked c rows)
-  pub one-tree : OneTree rows
+  pub one_tree : OneTree rows
 
 pub judged : (c : ℕ) (rows : List Row) (r : Bool) → r ≡ is_table c rows → Judged c rows r
-judged c rows r e = record { value = e; accepts = accepts c rows; one-tree = one-tree rows }
+judged c rows r e = record { value = e; accepts = accepts c rows; one_tree = one_tree rows }
