@@ -37,9 +37,9 @@ read_under-requires c =
 
 pub returns-in_err-names : goal.returns-in_err-names
 returns-in_err-names c =
-    let p = err_from_is_err_and c.from-residual.result c.from-residual.ensures.1 in
+    let p = err_from_is_err_and c.from_residual.result c.from_residual.ensures.1 in
     let old : List Row = c.args.rows.now in
-    let e : (c.from-residual.result, old) ≡ reading c.args.list.now c.args.sheet.now old =
+    let e : (c.from_residual.result, old) ≡ reading c.args.list.now c.args.sheet.now old =
     ap (λ r. (r, old)) p.1 ∙ ap (λ f. (Err f, old)) p.2 ∙ list-refused c.args.list.now c.args.sheet.now old c.in_err-names.field-0.0 c.in_err-names.ensures.value in
     record { value = e; exactly = exactly _ _ _ _ _ e }
 

@@ -9,7 +9,7 @@ use Rattle.reader.proofs.sheet.read_all.Goals as goal
 
 pub returns-in_err-sheet : goal.returns-in_err-sheet
 returns-in_err-sheet c =
-    let p = err_from_is_err_and c.from-residual.result c.from-residual.ensures.1 in
+    let p = err_from_is_err_and c.from_residual.result c.from_residual.ensures.1 in
     rw (p.1, p.2) (ap (λ ts. run ts 0 start) (all-ahead _ _) ∙ c.in_err-sheet.ensures [] whole tt)
 
 pub returns-in_default : goal.returns-in_default

@@ -103,7 +103,7 @@ pub returns-in_err-part : goal.returns-in_err-part
 returns-in_err-part t c t' at =
     let p = c.args.points.now in
     let N = negating at c.in-Not.is in
-    let E = err_from_is_err_and c.from-residual.result c.from-residual.ensures.1 in
+    let E = err_from_is_err_and c.from_residual.result c.from_residual.ensures.1 in
     rw (E.1, E.2) (then-stop c.args.spent _ _ _ (condition_work N.d p) _ (c.in_err-part.ensures N.d N.part) ∙ ap (λ (x : Condition). after c.args.spent (condition_work x p)) (sym N.is))
 
 pub returns-in_ok-part : goal.returns-in_ok-part
@@ -117,14 +117,14 @@ pub returns-in_err-left : goal.returns-in_err-left
 returns-in_err-left t c t' at =
     let p = c.args.points.now in
     let C = connecting at c.in_default.not-Truth c.in_default.not-Compare c.in_default.not-Not in
-    let E = err_from_is_err_and c.from-residual-in_err-left.result c.from-residual-in_err-left.ensures.1 in
+    let E = err_from_is_err_and c.from_residual-in_err-left.result c.from_residual-in_err-left.ensures.1 in
     rw (E.1, E.2) (then-stop c.args.spent _ _ _ (condition_work C.l p) _ (c.in_err-left.ensures C.l C.left) ∙ ap (λ (x : Condition). after c.args.spent (condition_work x p)) (sym C.is))
 
 pub returns-in_err-right : goal.returns-in_err-right
 returns-in_err-right t c t' at =
     let p = c.args.points.now in
     let C = connecting at c.in_default.not-Truth c.in_default.not-Compare c.in_default.not-Not in
-    let E = err_from_is_err_and c.from-residual-in_err-right.result c.from-residual-in_err-right.ensures.1 in
+    let E = err_from_is_err_and c.from_residual-in_err-right.result c.from_residual-in_err-right.ensures.1 in
     let h = c.in_ok-left.ensures C.l C.left in
     rw (E.1, E.2) (then-stop c.in_ok-left.before _ _ _ (condition_work C.r p) _ (c.in_err-right.ensures C.r C.right) ∙ sym (then-done c.args.spent c.in_ok-left.before c.in_ok-left.left (condition_work C.l p) _ h) ∙ ap (λ (x : Condition). after c.args.spent (condition_work x p)) (sym C.is))
 

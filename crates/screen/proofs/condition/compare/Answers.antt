@@ -84,7 +84,7 @@ returns-in_err-left c q k l r at =
     let R = c.args.rows.now in
     let p = c.args.points.now in
     let C = compared at in
-    let E = err_from_is_err_and c.from-residual.result c.from-residual.ensures.1 in
+    let E = err_from_is_err_and c.from_residual.result c.from_residual.ensures.1 in
     rw (E.1, E.2) (then-stop c.args.spent _ _ _ (sum_work l p) _ (c.in_err-left.ensures l C.left))
 
 pub returns-in_err-right : goal.returns-in_err-right
@@ -92,7 +92,7 @@ returns-in_err-right c q k l r at =
     let R = c.args.rows.now in
     let p = c.args.points.now in
     let C = compared at in
-    let E = err_from_is_err_and c.from-residual-in_err-right.result c.from-residual-in_err-right.ensures.1 in
+    let E = err_from_is_err_and c.from_residual-in_err-right.result c.from_residual-in_err-right.ensures.1 in
     let h = c.in_ok-left.ensures l C.left in
     let e = c.in_err-right.ensures r C.right in
     rw (E.1, E.2) (then-stop c.in_ok-left.before _ _ _ (sum_work r p) _ e ∙ sym (then-done c.args.spent c.in_ok-left.before c.in_ok-left.left (sum_work l p) _ h))

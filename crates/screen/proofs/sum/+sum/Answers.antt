@@ -82,7 +82,7 @@ returns-in_err-left t c t' at =
     let end = c.args.end in
     let p = c.args.points.now in
     let la = left_at R end (length p) (get_or R (end - 2) blank).size P.l (sum_size P.r) P.two.last P.two.left in
-    let E = err_from_is_err_and c.from-residual.result c.from-residual.ensures.1 in
+    let E = err_from_is_err_and c.from_residual.result c.from_residual.ensures.1 in
     let h = c.in_err-left.ensures P.l la in
     rw (E.1, E.2) (then-stop c.args.spent _ _ _ (sum_work P.l p) _ h ∙ ap (λ (x : Sum). after c.args.spent (sum_work x p)) (sym P.is))
 
@@ -106,7 +106,7 @@ returns-in_err-right t c t' at =
     let end = c.args.end in
     let p = c.args.points.now in
     let la = left_at R end (length p) (get_or R (end - 2) blank).size P.l (sum_size P.r) P.two.last P.two.left in
-    let E = err_from_is_err_and c.from-residual-in_err-right.result c.from-residual-in_err-right.ensures.1 in
+    let E = err_from_is_err_and c.from_residual-in_err-right.result c.from_residual-in_err-right.ensures.1 in
     let h = c.in_ok-left.ensures P.l la in
     let k = c.in_err-right.ensures P.r P.two.right in
     rw (E.1, E.2) (then-stop c.in_ok-left.before _ _ _ (sum_work P.r p) _ k ∙ sym (then-done c.args.spent c.in_ok-left.before c.in_ok-left.left (sum_work P.l p) _ h) ∙ ap (λ (x : Sum). after c.args.spent (sum_work x p)) (sym P.is))

@@ -7,7 +7,7 @@ use Rattle.station_file.proofs.fields.places_from.Goals as goal
 
 pub returns-in_err-slots : goal.returns-in_err-slots
 returns-in_err-slots c =
-    let p = err_from_is_err_and c.from-residual.result c.from-residual.ensures.1 in
+    let p = err_from_is_err_and c.from_residual.result c.from_residual.ensures.1 in
     ap (filled c.args.count) (p.1 ∙ ap Err p.2) ∙ sym (c.loop-i.invariant.1 ∙ fields-wrong place_field 2 c.args.count c.loop-i.i (c.args.at + 2 * c.loop-i.i) (take c.loop-i.i c.loop-i.slots) c.args.bytes.now _ (omega arith) (sym c.in_err-slots.ensures))
 
 pub loop-i-preserved : goal.loop-i-preserved

@@ -8,17 +8,17 @@ use Rattle.reader.proofs.progress.Progress.+block_command_if_command_sheet_while
 
 pub block-returns-in_err-seen : goal.block-returns-in_err-seen
 block-returns-in_err-seen t c =
-    let p = err_from_is_err_and c.from-residual.result c.from-residual.ensures.1 in
+    let p = err_from_is_err_and c.from_residual.result c.from_residual.ensures.1 in
     rw (p.1, p.2) (block-missed c.in_err-seen.ensures)
 
 pub block-returns-in_err-enter : goal.block-returns-in_err-enter
 block-returns-in_err-enter t c =
-    let p = err_from_is_err_and c.from-residual-in_err-enter.result c.from-residual-in_err-enter.ensures.1 in
+    let p = err_from_is_err_and c.from_residual-in_err-enter.result c.from_residual-in_err-enter.ensures.1 in
     rw (p.1, p.2) (block-crowded c.in_ok-seen.ensures (barred c.in_err-enter.ensures))
 
 pub block-returns-in_err-sheet : goal.block-returns-in_err-sheet
 block-returns-in_err-sheet t c =
-    let p = err_from_is_err_and c.from-residual-in_err-sheet.result c.from-residual-in_err-sheet.ensures.1 in
+    let p = err_from_is_err_and c.from_residual-in_err-sheet.result c.from_residual-in_err-sheet.ensures.1 in
     rw (p.1, p.2) (block_refused c.in_ok-seen.ensures (entered c.in_ok-enter.ensures) c.in_err-sheet.ensures)
 
 pub block-returns-in_default : goal.block-returns-in_default
@@ -35,12 +35,12 @@ command-returns-in-Neither t c = no-command c.args.self.now c.in-Neither.cause c
 
 pub if_command-returns-in_err-bracketed : goal.if_command-returns-in_err-bracketed
 if_command-returns-in_err-bracketed t c =
-    let p = err_from_is_err_and c.from-residual.result c.from-residual.ensures.1 in
+    let p = err_from_is_err_and c.from_residual.result c.from_residual.ensures.1 in
     rw (p.1, p.2) (if-no-head c.requires.begins c.pass.ensures c.in_err-bracketed.ensures)
 
 pub if_command-returns-in_err-block : goal.if_command-returns-in_err-block
 if_command-returns-in_err-block t c =
-    let p = err_from_is_err_and c.from-residual-in_err-block.result c.from-residual-in_err-block.ensures.1 in
+    let p = err_from_is_err_and c.from_residual-in_err-block.result c.from_residual-in_err-block.ensures.1 in
     rw (p.1, p.2) (if-no-block c.requires.begins c.pass.ensures c.in_ok-bracketed.ensures c.in_err-block.ensures)
 
 pub if_command-returns-in_default : goal.if_command-returns-in_default
@@ -48,7 +48,7 @@ if_command-returns-in_default t c = when-read c.requires.begins c.pass.ensures c
 
 pub if_command-returns-in_err-block-2 : goal.if_command-returns-in_err-block-2
 if_command-returns-in_err-block-2 t c =
-    let p = err_from_is_err_and c.from-residual-in_err-block-2.result c.from-residual-in_err-block-2.ensures.1 in
+    let p = err_from_is_err_and c.from_residual-in_err-block-2.result c.from_residual-in_err-block-2.ensures.1 in
     rw (p.1, p.2) (else-no-block c.requires.begins c.pass.ensures c.in_ok-bracketed.ensures c.in_ok-block.ensures c.see-next.ensures (sym c.in-Else.ensures) c.pass-2.ensures c.in_err-block-2.ensures)
 
 pub if_command-returns : goal.if_command-returns
@@ -59,7 +59,7 @@ sheet-returns-in-CloseBlock t c = ⊎_elim (λ e. one-command command.CloseBlock
 
 pub sheet-returns-in_err-sheet : goal.sheet-returns-in_err-sheet
 sheet-returns-in_err-sheet t c =
-    let p = err_from_is_err_and c.from-residual-in_err-sheet.result c.from-residual-in_err-sheet.ensures.1 in
+    let p = err_from_is_err_and c.from_residual-in_err-sheet.result c.from_residual-in_err-sheet.ensures.1 in
     rw (p.1, p.2) (rest-refused c.in_ok-command.ensures c.see-seen.ensures (λ e. c.in_default.not-CloseBlock (c.command_start.ensures ∙ e)) (λ e. c.in_default.not-End (c.command_start.ensures ∙ e)) c.in_err-sheet.ensures)
 
 pub sheet-returns-in_ok-sheet : goal.sheet-returns-in_ok-sheet
@@ -67,12 +67,12 @@ sheet-returns-in_ok-sheet t c = more-commands c.in_ok-command.ensures c.see-seen
 
 pub while_command-returns-in_err-bracketed : goal.while_command-returns-in_err-bracketed
 while_command-returns-in_err-bracketed t c =
-    let p = err_from_is_err_and c.from-residual.result c.from-residual.ensures.1 in
+    let p = err_from_is_err_and c.from_residual.result c.from_residual.ensures.1 in
     rw (p.1, p.2) (while-no-head c.requires.begins c.pass.ensures c.in_err-bracketed.ensures)
 
 pub while_command-returns-in_err-block : goal.while_command-returns-in_err-block
 while_command-returns-in_err-block t c =
-    let p = err_from_is_err_and c.from-residual-in_err-block.result c.from-residual-in_err-block.ensures.1 in
+    let p = err_from_is_err_and c.from_residual-in_err-block.result c.from_residual-in_err-block.ensures.1 in
     rw (p.1, p.2) (while-no-block c.requires.begins c.pass.ensures c.in_ok-bracketed.ensures c.in_err-block.ensures)
 
 pub while_command-returns : goal.while_command-returns

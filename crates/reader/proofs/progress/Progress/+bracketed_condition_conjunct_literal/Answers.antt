@@ -7,22 +7,22 @@ use Rattle.reader.proofs.progress.Progress.+bracketed_condition_conjunct_literal
 
 pub bracketed-returns-in_err-seen : goal.bracketed-returns-in_err-seen
 bracketed-returns-in_err-seen t c =
-    let p = err_from_is_err_and c.from-residual.result c.from-residual.ensures.1 in
+    let p = err_from_is_err_and c.from_residual.result c.from_residual.ensures.1 in
     rw (p.1, p.2) (opening-missed c.in_err-seen.ensures)
 
 pub bracketed-returns-in_err-enter : goal.bracketed-returns-in_err-enter
 bracketed-returns-in_err-enter t c =
-    let p = err_from_is_err_and c.from-residual-in_err-enter.result c.from-residual-in_err-enter.ensures.1 in
+    let p = err_from_is_err_and c.from_residual-in_err-enter.result c.from_residual-in_err-enter.ensures.1 in
     rw (p.1, p.2) (opening-crowded c.in_ok-seen.ensures (barred c.in_err-enter.ensures))
 
 pub bracketed-returns-in_err-condition : goal.bracketed-returns-in_err-condition
 bracketed-returns-in_err-condition t c =
-    let p = err_from_is_err_and c.from-residual-in_err-condition.result c.from-residual-in_err-condition.ensures.1 in
+    let p = err_from_is_err_and c.from_residual-in_err-condition.result c.from_residual-in_err-condition.ensures.1 in
     rw (p.1, p.2) (bracket-refused c.in_ok-seen.ensures (entered c.in_ok-enter.ensures) c.in_err-condition.ensures)
 
 pub bracketed-returns-in_err-expect : goal.bracketed-returns-in_err-expect
 bracketed-returns-in_err-expect t c =
-    let p = err_from_is_err_and c.from-residual-in_err-expect.result c.from-residual-in_err-expect.ensures.1 in
+    let p = err_from_is_err_and c.from_residual-in_err-expect.result c.from_residual-in_err-expect.ensures.1 in
     rw (p.1, p.2) (not-closed c.in_ok-seen.ensures (entered c.in_ok-enter.ensures) c.in_ok-condition.ensures c.in_err-expect.ensures)
 
 pub bracketed-returns : goal.bracketed-returns
@@ -30,7 +30,7 @@ bracketed-returns t c = bracket-read c.in_ok-seen.ensures (entered c.in_ok-enter
 
 pub condition-returns-in_err-condition : goal.condition-returns-in_err-condition
 condition-returns-in_err-condition t c =
-    let p = err_from_is_err_and c.from-residual-in_err-condition.result c.from-residual-in_err-condition.ensures.1 in
+    let p = err_from_is_err_and c.from_residual-in_err-condition.result c.from_residual-in_err-condition.ensures.1 in
     rw (p.1, p.2) (condition-refused c.see-seen.ensures (sym c.in-Or.ensures) c.in_ok-conjunct.ensures c.pass.ensures c.in_err-condition.ensures)
 
 pub condition-returns-in_ok-condition : goal.condition-returns-in_ok-condition
@@ -41,7 +41,7 @@ condition-returns-in_default t c = one-conjunct c.see-seen.ensures (λ e. c.in_d
 
 pub conjunct-returns-in_err-conjunct : goal.conjunct-returns-in_err-conjunct
 conjunct-returns-in_err-conjunct t c =
-    let p = err_from_is_err_and c.from-residual-in_err-conjunct.result c.from-residual-in_err-conjunct.ensures.1 in
+    let p = err_from_is_err_and c.from_residual-in_err-conjunct.result c.from_residual-in_err-conjunct.ensures.1 in
     rw (p.1, p.2) (conjunct-refused c.see-seen.ensures (sym c.in-And.ensures) c.in_ok-literal.ensures c.pass.ensures c.in_err-conjunct.ensures)
 
 pub conjunct-returns-in_ok-conjunct : goal.conjunct-returns-in_ok-conjunct
@@ -52,7 +52,7 @@ conjunct-returns-in_default t c = one-literal c.see-seen.ensures (λ e. c.in_def
 
 pub literal-returns-in_err-literal : goal.literal-returns-in_err-literal
 literal-returns-in_err-literal t c =
-    let p = err_from_is_err_and c.from-residual.result c.from-residual.ensures.1 in
+    let p = err_from_is_err_and c.from_residual.result c.from_residual.ensures.1 in
     rw (p.1, p.2) (negation-refused c.args.self.now c.see-seen.ensures (sym c.in-Not.ensures) c.pass.ensures c.in_err-literal.ensures)
 
 pub literal-returns-in-Truth : goal.literal-returns-in-Truth

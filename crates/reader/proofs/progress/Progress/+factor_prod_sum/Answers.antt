@@ -13,17 +13,17 @@ use Rattle.reader.proofs.progress.Progress.+factor_prod_sum.Goals as goal
 
 pub factor-returns-in_err-enter : goal.factor-returns-in_err-enter
 factor-returns-in_err-enter t c =
-    let p = err_from_is_err_and c.from-residual.result c.from-residual.ensures.1 in
+    let p = err_from_is_err_and c.from_residual.result c.from_residual.ensures.1 in
     rw (p.1, p.2) (bracket-barred c.see-seen.ensures (sym c.in-Bracket.ensures) (barred c.in_err-enter.ensures))
 
 pub factor-returns-in_err-sum : goal.factor-returns-in_err-sum
 factor-returns-in_err-sum t c =
-    let p = err_from_is_err_and c.from-residual-in_err-sum.result c.from-residual-in_err-sum.ensures.1 in
+    let p = err_from_is_err_and c.from_residual-in_err-sum.result c.from_residual-in_err-sum.ensures.1 in
     rw (p.1, p.2) (bracket-refused c.see-seen.ensures (sym c.in-Bracket.ensures) (entered c.in_ok-enter.ensures) c.in_err-sum.ensures)
 
 pub factor-returns-in_err-expect : goal.factor-returns-in_err-expect
 factor-returns-in_err-expect t c =
-    let p = err_from_is_err_and c.from-residual-in_err-expect.result c.from-residual-in_err-expect.ensures.1 in
+    let p = err_from_is_err_and c.from_residual-in_err-expect.result c.from_residual-in_err-expect.ensures.1 in
     rw (p.1, p.2) (bracket-unclosed c.see-seen.ensures (sym c.in-Bracket.ensures) (entered c.in_ok-enter.ensures) c.in_ok-sum.ensures c.in_err-expect.ensures)
 
 pub factor-returns-in_ok-expect : goal.factor-returns-in_ok-expect
@@ -46,7 +46,7 @@ factor-returns-in-Neither t c = no-factor c.args.self.now c.see-seen.ensures (sy
 
 pub prod-returns-in_err-factor-2 : goal.prod-returns-in_err-factor-2
 prod-returns-in_err-factor-2 t c =
-    let p = err_from_is_err_and c.from-residual-in_err-factor-2.result c.from-residual-in_err-factor-2.ensures.1 in
+    let p = err_from_is_err_and c.from_residual-in_err-factor-2.result c.from_residual-in_err-factor-2.ensures.1 in
     let took : TookProd (lines_of c.args.names.now.text.now) c.args.text.now c.args.self.now c.args.rows.now c.more.self c.more.rows = c.more.invariant.5 c.args.self.now c.args.rows.now refl (prod-first c.in_ok-factor.ensures) in
     rw (p.1, p.2) (prod-refused took c.see-seen.ensures (sym c.in-Multiplicative.ensures) c.pass.ensures c.in_err-factor-2.ensures)
 
@@ -78,7 +78,7 @@ sum-returns-in_default t c =
 
 pub sum-returns-in_err-prod-2 : goal.sum-returns-in_err-prod-2
 sum-returns-in_err-prod-2 t c =
-    let p = err_from_is_err_and c.from-residual-in_err-prod-2.result c.from-residual-in_err-prod-2.ensures.1 in
+    let p = err_from_is_err_and c.from_residual-in_err-prod-2.result c.from_residual-in_err-prod-2.ensures.1 in
     let took : SumSoFar (lines_of c.args.names.now.text.now) c.args.text.now c.args.self.now c.args.rows.now c.more.self c.more.rows = c.more.invariant.5 c.args.self.now c.args.rows.now refl (sum_first c.in_ok-prod.ensures.0 c.in_ok-prod.ensures.1) in
     rw (p.1, p.2) (sum-refused took c.see-seen.ensures (sym c.in-Additive.ensures) c.pass.ensures c.in_err-prod-2.ensures)
 

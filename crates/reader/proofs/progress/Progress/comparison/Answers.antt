@@ -11,7 +11,7 @@ returns-in_default c = no-comparison c.in_ok-sum.ensures c.see-seen.ensures (sym
 
 pub returns-in_err-sum-2 : goal.returns-in_err-sum-2
 returns-in_err-sum-2 c =
-    let p = err_from_is_err_and c.from-residual-in_err-sum-2.result c.from-residual-in_err-sum-2.ensures.1 in
+    let p = err_from_is_err_and c.from_residual-in_err-sum-2.result c.from_residual-in_err-sum-2.ensures.1 in
     rw (p.1, p.2) (right-refused c.in-Some.comparison c.in_ok-sum.ensures c.see-seen.ensures (sym c.in-Some.ensures) c.pass.ensures c.in_err-sum-2.ensures)
 
 pub returns : goal.returns

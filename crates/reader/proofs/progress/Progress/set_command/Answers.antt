@@ -10,17 +10,17 @@ use Rattle.reader.proofs.progress.Progress.set_command.Goals as goal
 
 pub returns-in_err-expect : goal.returns-in_err-expect
 returns-in_err-expect c =
-    let p = err_from_is_err_and c.from-residual.result c.from-residual.ensures.1 in
+    let p = err_from_is_err_and c.from_residual.result c.from_residual.ensures.1 in
     rw (p.1, p.2) (no-becomes c.requires.begins c.pass.ensures c.in_err-expect.ensures)
 
 pub returns-in_err-sum : goal.returns-in_err-sum
 returns-in_err-sum c =
-    let p = err_from_is_err_and c.from-residual-in_err-sum.result c.from-residual-in_err-sum.ensures.1 in
+    let p = err_from_is_err_and c.from_residual-in_err-sum.result c.from_residual-in_err-sum.ensures.1 in
     rw (p.1, p.2) (no-sum c.requires.begins c.pass.ensures c.in_ok-expect.ensures c.in_err-sum.ensures)
 
 pub returns-in_err-expect-2 : goal.returns-in_err-expect-2
 returns-in_err-expect-2 c =
-    let p = err_from_is_err_and c.from-residual-in_err-expect-2.result c.from-residual-in_err-expect-2.ensures.1 in
+    let p = err_from_is_err_and c.from_residual-in_err-expect-2.result c.from_residual-in_err-expect-2.ensures.1 in
     rw (p.1, p.2) (no-semicolon c.requires.begins c.pass.ensures c.in_ok-expect.ensures c.in_ok-sum.ensures c.in_err-expect-2.ensures)
 
 pub returns : goal.returns

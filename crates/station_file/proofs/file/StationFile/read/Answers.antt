@@ -11,5 +11,5 @@ returns c =
     record {
       value = e;
       back = λ f file. e ∙ ap reading file.laid ∙ file-back f file.right;
-      only = λ f told. file-only bs f (λ i. (c.type-inv.bytes i).fits) (sym e ∙ told);
+      only = λ f told. file-only bs f (λ i. (c.type_inv.bytes i).fits) (sym e ∙ told);
     }

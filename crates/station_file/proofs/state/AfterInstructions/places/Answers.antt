@@ -29,4 +29,4 @@ returns c =
     let none = sym c.in_default.ensures in
     let many = as_many s.count (length ps) none in
     let put_is = places-put s.at s.count ps bs _ _ (omega arith) (sym many) c.put_two.ensures c.put_places.ensures in
-    record { value = is-written s (finished s ps) s.at (2 + 2 * length ps) (places_section ps) (wrong_places s.count (length ps)) bs (length-places ps) _ _ (ap (λ n. record { length = n }) u) (omega arith) none put_is; back = completes s ps bs _ many (omega arith) (λ i. (c.type-inv.places i).fits) put_is }
+    record { value = is-written s (finished s ps) s.at (2 + 2 * length ps) (places_section ps) (wrong_places s.count (length ps)) bs (length-places ps) _ _ (ap (λ n. record { length = n }) u) (omega arith) none put_is; back = completes s ps bs _ many (omega arith) (λ i. (c.type_inv.places i).fits) put_is }
