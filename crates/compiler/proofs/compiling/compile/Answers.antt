@@ -17,7 +17,7 @@ returns-in-Some c =
     let I = c.args.instructions.now in
     let P = c.args.places.now in
     let v = refused-value p R I P c.min-slots.result c.in-Some.fault c.min-slots.ensures (sym c.refused.ensures ∙ c.in-Some.is) in
-    record { value = v; code = lays p R I P _ I P v; takes = takes p R I P _ I P v; one_code_lem = tells p R I P _ I P v }
+    record { value = v; code = lays p R I P _ I P v; takes = takes p R I P _ I P v; one_code = tells p R I P _ I P v }
 
 pub returns-in-None : goal.returns-in-None
 returns-in-None c =
@@ -32,5 +32,5 @@ returns-in-None c =
       value = v;
       code = lays p R I P _ c.lay.new.instructions c.lay.new.places v;
       takes = takes p R I P _ c.lay.new.instructions c.lay.new.places v;
-      one_code_lem = tells p R I P _ c.lay.new.instructions c.lay.new.places v;
+      one_code = tells p R I P _ c.lay.new.instructions c.lay.new.places v;
     }
