@@ -38,7 +38,7 @@ overflow_add-result-in-Not t c =
     let N = negating c.requires.tree.1 c.in-Not.is in
     let small = c.requires.small in
     let n = N.size in
-    let before = spent-condition N.d c.args.points.now c.args.spent c.in_ok-part.before c.in_ok-part.part (c.in_ok-part.ensures N.d N.part) in
+    let before = spent-condition N.d c.args.points.now c.args.spent c.in_ok-part-in-Not.before c.in_ok-part-in-Not.part (c.in_ok-part-in-Not.ensures N.d N.part) in
     search rules
 
 pub overflow_sub-middle : goal.overflow_sub-middle
@@ -71,7 +71,7 @@ condition-requires-in_default-2 t c =
     let C = connecting c.requires.tree.1 c.in_default.not-Truth c.in_default.not-Compare c.in_default.not-Not in
     let small = c.requires.small in
     let two = C.two in
-    let before = spent-condition C.l c.args.points.now c.args.spent c.in_ok-left.before c.in_ok-left.left (c.in_ok-left.ensures C.l C.left) in
+    let before = spent-condition C.l c.args.points.now c.args.spent c.in_ok-left-in_default.before c.in_ok-left-in_default.left (c.in_ok-left-in_default.ensures C.l C.left) in
     (search rules, ((C.r, C.right), omega (arith, C.size, C.right-size)))
 
 pub overflow_add-result-in_default : goal.overflow_add-result-in_default
@@ -79,8 +79,8 @@ overflow_add-result-in_default t c =
     let C = connecting c.requires.tree.1 c.in_default.not-Truth c.in_default.not-Compare c.in_default.not-Not in
     let small = c.requires.small in
     let n = C.size in
-    let before = spent-condition C.l c.args.points.now c.args.spent c.in_ok-left.before c.in_ok-left.left (c.in_ok-left.ensures C.l C.left) in
-    let both = spent-condition C.r c.args.points.now c.in_ok-left.before c.in_ok-right.both c.in_ok-right.right (c.in_ok-right.ensures C.r C.right) in
+    let before = spent-condition C.l c.args.points.now c.args.spent c.in_ok-left-in_default.before c.in_ok-left-in_default.left (c.in_ok-left-in_default.ensures C.l C.left) in
+    let both = spent-condition C.r c.args.points.now c.in_ok-left-in_default.before c.in_ok-right-in_default.both c.in_ok-right-in_default.right (c.in_ok-right-in_default.ensures C.r C.right) in
     search rules
 
 is_one : (b : Bool) (v : ℤ) → v ≡ bit b → eqb (of_z w32 v) 1 ≡ b
@@ -99,42 +99,42 @@ returns-in-Compare t c t' at =
     c.compare.ensures C.place C.relation C.l C.r (subst (ConditionAt c.args.rows.now c.args.end (length c.args.points.now)) C.is at)
     ∙ ap (λ (x : Condition). after c.args.spent (condition_work x c.args.points.now)) (sym C.is)
 
-pub returns-in_err-part : goal.returns-in_err-part
-returns-in_err-part t c t' at =
+pub returns-in_err-part-in-Not : goal.returns-in_err-part-in-Not
+returns-in_err-part-in-Not t c t' at =
     let p = c.args.points.now in
     let N = negating at c.in-Not.is in
     let E = err_from_is_err_and c.from_residual.result c.from_residual.ensures.1 in
-    rw (E.1, E.2) (then-stop c.args.spent _ _ _ (condition_work N.d p) _ (c.in_err-part.ensures N.d N.part) ∙ ap (λ (x : Condition). after c.args.spent (condition_work x p)) (sym N.is))
+    rw (E.1, E.2) (then-stop c.args.spent _ _ _ (condition_work N.d p) _ (c.in_err-part-in-Not.ensures N.d N.part) ∙ ap (λ (x : Condition). after c.args.spent (condition_work x p)) (sym N.is))
 
-pub returns-in_ok-part : goal.returns-in_ok-part
-returns-in_ok-part t c t' at =
+pub returns-in_ok-part-in-Not : goal.returns-in_ok-part-in-Not
+returns-in_ok-part-in-Not t c t' at =
     let p = c.args.points.now in
     let N = negating at c.in-Not.is in
-    sym (then-done c.args.spent c.in_ok-part.before c.in_ok-part.part (condition_work N.d p) (λ x. done 1 (bool.not x)) (c.in_ok-part.ensures N.d N.part))
+    sym (then-done c.args.spent c.in_ok-part-in-Not.before c.in_ok-part-in-Not.part (condition_work N.d p) (λ x. done 1 (bool.not x)) (c.in_ok-part-in-Not.ensures N.d N.part))
     ∙ ap (λ (x : Condition). after c.args.spent (condition_work x p)) (sym N.is)
 
-pub returns-in_err-left : goal.returns-in_err-left
-returns-in_err-left t c t' at =
+pub returns-in_err-left-in_default : goal.returns-in_err-left-in_default
+returns-in_err-left-in_default t c t' at =
     let p = c.args.points.now in
     let C = connecting at c.in_default.not-Truth c.in_default.not-Compare c.in_default.not-Not in
-    let E = err_from_is_err_and c.from_residual-in_err-left.result c.from_residual-in_err-left.ensures.1 in
-    rw (E.1, E.2) (then-stop c.args.spent _ _ _ (condition_work C.l p) _ (c.in_err-left.ensures C.l C.left) ∙ ap (λ (x : Condition). after c.args.spent (condition_work x p)) (sym C.is))
+    let E = err_from_is_err_and c.from_residual-in_err-left-in_default.result c.from_residual-in_err-left-in_default.ensures.1 in
+    rw (E.1, E.2) (then-stop c.args.spent _ _ _ (condition_work C.l p) _ (c.in_err-left-in_default.ensures C.l C.left) ∙ ap (λ (x : Condition). after c.args.spent (condition_work x p)) (sym C.is))
 
-pub returns-in_err-right : goal.returns-in_err-right
-returns-in_err-right t c t' at =
+pub returns-in_err-right-in_default : goal.returns-in_err-right-in_default
+returns-in_err-right-in_default t c t' at =
     let p = c.args.points.now in
     let C = connecting at c.in_default.not-Truth c.in_default.not-Compare c.in_default.not-Not in
-    let E = err_from_is_err_and c.from_residual-in_err-right.result c.from_residual-in_err-right.ensures.1 in
-    let h = c.in_ok-left.ensures C.l C.left in
-    rw (E.1, E.2) (then-stop c.in_ok-left.before _ _ _ (condition_work C.r p) _ (c.in_err-right.ensures C.r C.right) ∙ sym (then-done c.args.spent c.in_ok-left.before c.in_ok-left.left (condition_work C.l p) _ h) ∙ ap (λ (x : Condition). after c.args.spent (condition_work x p)) (sym C.is))
+    let E = err_from_is_err_and c.from_residual-in_err-right-in_default.result c.from_residual-in_err-right-in_default.ensures.1 in
+    let h = c.in_ok-left-in_default.ensures C.l C.left in
+    rw (E.1, E.2) (then-stop c.in_ok-left-in_default.before _ _ _ (condition_work C.r p) _ (c.in_err-right-in_default.ensures C.r C.right) ∙ sym (then-done c.args.spent c.in_ok-left-in_default.before c.in_ok-left-in_default.left (condition_work C.l p) _ h) ∙ ap (λ (x : Condition). after c.args.spent (condition_work x p)) (sym C.is))
 
-pub returns-in_ok-right : goal.returns-in_ok-right
-returns-in_ok-right t c t' at =
+pub returns-in_ok-right-in_default : goal.returns-in_ok-right-in_default
+returns-in_ok-right-in_default t c t' at =
     let p = c.args.points.now in
     let C = connecting at c.in_default.not-Truth c.in_default.not-Compare c.in_default.not-Not in
-    let h = c.in_ok-left.ensures C.l C.left in
-    let e = c.in_ok-right.ensures C.r C.right in
-    ap (λ (x : Bool). done (c.in_ok-right.both + 1) x) (c.connect.ensures ∙ C.joined c.in_ok-left.left c.in_ok-right.right)
-    ∙ sym (then-done c.in_ok-left.before c.in_ok-right.both c.in_ok-right.right (condition_work C.r p) (λ y. done 1 (connected C.j c.in_ok-left.left y)) e)
-    ∙ sym (then-done c.args.spent c.in_ok-left.before c.in_ok-left.left (condition_work C.l p) (λ x. then (condition_work C.r p) (λ y. done 1 (connected C.j x y))) h)
+    let h = c.in_ok-left-in_default.ensures C.l C.left in
+    let e = c.in_ok-right-in_default.ensures C.r C.right in
+    ap (λ (x : Bool). done (c.in_ok-right-in_default.both + 1) x) (c.connect.ensures ∙ C.joined c.in_ok-left-in_default.left c.in_ok-right-in_default.right)
+    ∙ sym (then-done c.in_ok-left-in_default.before c.in_ok-right-in_default.both c.in_ok-right-in_default.right (condition_work C.r p) (λ y. done 1 (connected C.j c.in_ok-left-in_default.left y)) e)
+    ∙ sym (then-done c.args.spent c.in_ok-left-in_default.before c.in_ok-left-in_default.left (condition_work C.l p) (λ x. then (condition_work C.r p) (λ y. done 1 (connected C.j x y))) h)
     ∙ ap (λ (x : Condition). after c.args.spent (condition_work x p)) (sym C.is)

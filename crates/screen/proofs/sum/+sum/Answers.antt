@@ -75,15 +75,15 @@ sum-requires t c =
     let two = P.two.two in
     (search rules, ((P.l, at), omega arith))
 
-pub returns-in_err-left : goal.returns-in_err-left
-returns-in_err-left t c t' at =
+pub returns-in_err-left-in_default : goal.returns-in_err-left-in_default
+returns-in_err-left-in_default t c t' at =
     let P = parted at c.in_default.not-Number c.in_default.not-Name in
     let R = c.args.rows.now in
     let end = c.args.end in
     let p = c.args.points.now in
     let la = left_at R end (length p) (get_or R (end - 2) blank).size P.l (sum_size P.r) P.two.last P.two.left in
     let E = err_from_is_err_and c.from_residual.result c.from_residual.ensures.1 in
-    let h = c.in_err-left.ensures P.l la in
+    let h = c.in_err-left-in_default.ensures P.l la in
     rw (E.1, E.2) (then-stop c.args.spent _ _ _ (sum_work P.l p) _ h ∙ ap (λ (x : Sum). after c.args.spent (sum_work x p)) (sym P.is))
 
 pub sum-requires-in_default : goal.sum-requires-in_default
@@ -92,24 +92,24 @@ sum-requires-in_default t c =
     let R = c.args.rows.now in
     let end = c.args.end in
     let la = left_at R end (length c.args.points.now) (get_or R (end - 2) blank).size P.l (sum_size P.r) P.two.last P.two.left in
-    let before = spent-sum P.l c.args.points.now c.args.spent c.in_ok-left.before c.in_ok-left.left (c.in_ok-left.ensures P.l la) in
+    let before = spent-sum P.l c.args.points.now c.args.spent c.in_ok-left-in_default.before c.in_ok-left-in_default.left (c.in_ok-left-in_default.ensures P.l la) in
     let n = sum-size R (end - 1) P.r P.two.right.stands in
     let own = ap (λ (x : Row). x.size) P.two.own in
     let small = c.requires.small in
     let two = P.two.two in
     (search rules, ((P.r, P.two.right), omega arith))
 
-pub returns-in_err-right : goal.returns-in_err-right
-returns-in_err-right t c t' at =
+pub returns-in_err-right-in_default : goal.returns-in_err-right-in_default
+returns-in_err-right-in_default t c t' at =
     let P = parted at c.in_default.not-Number c.in_default.not-Name in
     let R = c.args.rows.now in
     let end = c.args.end in
     let p = c.args.points.now in
     let la = left_at R end (length p) (get_or R (end - 2) blank).size P.l (sum_size P.r) P.two.last P.two.left in
-    let E = err_from_is_err_and c.from_residual-in_err-right.result c.from_residual-in_err-right.ensures.1 in
-    let h = c.in_ok-left.ensures P.l la in
-    let k = c.in_err-right.ensures P.r P.two.right in
-    rw (E.1, E.2) (then-stop c.in_ok-left.before _ _ _ (sum_work P.r p) _ k ∙ sym (then-done c.args.spent c.in_ok-left.before c.in_ok-left.left (sum_work P.l p) _ h) ∙ ap (λ (x : Sum). after c.args.spent (sum_work x p)) (sym P.is))
+    let E = err_from_is_err_and c.from_residual-in_err-right-in_default.result c.from_residual-in_err-right-in_default.ensures.1 in
+    let h = c.in_ok-left-in_default.ensures P.l la in
+    let k = c.in_err-right-in_default.ensures P.r P.two.right in
+    rw (E.1, E.2) (then-stop c.in_ok-left-in_default.before _ _ _ (sum_work P.r p) _ k ∙ sym (then-done c.args.spent c.in_ok-left-in_default.before c.in_ok-left-in_default.left (sum_work P.l p) _ h) ∙ ap (λ (x : Sum). after c.args.spent (sum_work x p)) (sym P.is))
 
 pub apply-requires : goal.apply-requires
 apply-requires t c =
@@ -117,32 +117,32 @@ apply-requires t c =
     let R = c.args.rows.now in
     let end = c.args.end in
     let la = left_at R end (length c.args.points.now) (get_or R (end - 2) blank).size P.l (sum_size P.r) P.two.last P.two.left in
-    let before = spent-sum P.l c.args.points.now c.args.spent c.in_ok-left.before c.in_ok-left.left (c.in_ok-left.ensures P.l la) in
-    let both = spent-sum P.r c.args.points.now c.in_ok-left.before c.in_ok-right.both c.in_ok-right.right (c.in_ok-right.ensures P.r P.two.right) in
+    let before = spent-sum P.l c.args.points.now c.args.spent c.in_ok-left-in_default.before c.in_ok-left-in_default.left (c.in_ok-left-in_default.ensures P.l la) in
+    let both = spent-sum P.r c.args.points.now c.in_ok-left-in_default.before c.in_ok-right-in_default.both c.in_ok-right-in_default.right (c.in_ok-right-in_default.ensures P.r P.two.right) in
     let own = ap (λ (x : Row). x.size) P.two.own in
     let small = c.requires.small in
     omega arith
 
-pub returns-in_ok-right : goal.returns-in_ok-right
-returns-in_ok-right t c t' at =
+pub returns-in_ok-right-in_default : goal.returns-in_ok-right-in_default
+returns-in_ok-right-in_default t c t' at =
     let P = parted at c.in_default.not-Number c.in_default.not-Name in
     let R = c.args.rows.now in
     let end = c.args.end in
     let p = c.args.points.now in
     let la = left_at R end (length p) (get_or R (end - 2) blank).size P.l (sum_size P.r) P.two.last P.two.left in
-    let h = c.in_ok-left.ensures P.l la in
-    let k = c.in_ok-right.ensures P.r P.two.right in
+    let h = c.in_ok-left-in_default.ensures P.l la in
+    let k = c.in_ok-right-in_default.ensures P.r P.two.right in
     let o : c.operator_of.result ≡ P.op = c.operator_of.ensures ∙ ap (λ (x : Row). operator_at x.kind) P.two.own ∙ operator-is P.op in
     let q = ap (λ (x : Row). x.place) P.two.own in
-    let fl : to_z w32 (of_z w32 c.in_ok-left.left) ≡ c.in_ok-left.left = search rules in
-    let fr : to_z w32 (of_z w32 c.in_ok-right.right) ≡ c.in_ok-right.right = search rules in
+    let fl : to_z w32 (of_z w32 c.in_ok-left-in_default.left) ≡ c.in_ok-left-in_default.left = search rules in
+    let fr : to_z w32 (of_z w32 c.in_ok-right-in_default.right) ≡ c.in_ok-right-in_default.right = search rules in
     c.apply.ensures
-    ∙ ap (λ (x : ℤ). after c.in_ok-right.both (step (get_or R (end - 1) blank).place (worked c.operator_of.result x (to_z w32 (of_z w32 c.in_ok-right.right))))) fl
-    ∙ ap (λ (x : ℤ). after c.in_ok-right.both (step (get_or R (end - 1) blank).place (worked c.operator_of.result c.in_ok-left.left x))) fr
-    ∙ ap (λ (x : Operator). after c.in_ok-right.both (step (get_or R (end - 1) blank).place (worked x c.in_ok-left.left c.in_ok-right.right))) o
-    ∙ ap (λ (x : ℕ). after c.in_ok-right.both (step x (worked P.op c.in_ok-left.left c.in_ok-right.right))) q
-    ∙ sym (then-done c.in_ok-left.before c.in_ok-right.both c.in_ok-right.right (sum_work P.r p) (λ y. step P.place (worked P.op c.in_ok-left.left y)) k)
-    ∙ sym (then-done c.args.spent c.in_ok-left.before c.in_ok-left.left (sum_work P.l p) (λ x. then (sum_work P.r p) (λ y. step P.place (worked P.op x y))) h)
+    ∙ ap (λ (x : ℤ). after c.in_ok-right-in_default.both (step (get_or R (end - 1) blank).place (worked c.operator_of.result x (to_z w32 (of_z w32 c.in_ok-right-in_default.right))))) fl
+    ∙ ap (λ (x : ℤ). after c.in_ok-right-in_default.both (step (get_or R (end - 1) blank).place (worked c.operator_of.result c.in_ok-left-in_default.left x))) fr
+    ∙ ap (λ (x : Operator). after c.in_ok-right-in_default.both (step (get_or R (end - 1) blank).place (worked x c.in_ok-left-in_default.left c.in_ok-right-in_default.right))) o
+    ∙ ap (λ (x : ℕ). after c.in_ok-right-in_default.both (step x (worked P.op c.in_ok-left-in_default.left c.in_ok-right-in_default.right))) q
+    ∙ sym (then-done c.in_ok-left-in_default.before c.in_ok-right-in_default.both c.in_ok-right-in_default.right (sum_work P.r p) (λ y. step P.place (worked P.op c.in_ok-left-in_default.left y)) k)
+    ∙ sym (then-done c.args.spent c.in_ok-left-in_default.before c.in_ok-left-in_default.left (sum_work P.l p) (λ x. then (sum_work P.r p) (λ y. step P.place (worked P.op x y))) h)
     ∙ ap (λ (x : Sum). after c.args.spent (sum_work x p)) (sym P.is)
 
 pub returns-in-Number : goal.returns-in-Number

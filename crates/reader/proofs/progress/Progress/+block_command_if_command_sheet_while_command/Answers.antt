@@ -57,13 +57,13 @@ if_command-returns t c = choose-read c.requires.begins c.pass.ensures c.in_ok-br
 pub sheet-returns-in-CloseBlock : goal.sheet-returns-in-CloseBlock
 sheet-returns-in-CloseBlock t c = ⊎_elim (λ e. one-command command.CloseBlock c.in_ok-command.ensures c.see-seen.ensures (sym c.command_start.ensures ∙ e) tt) (λ e. one-command command.End c.in_ok-command.ensures c.see-seen.ensures (sym c.command_start.ensures ∙ e) tt) c.in-CloseBlock.is
 
-pub sheet-returns-in_err-sheet : goal.sheet-returns-in_err-sheet
-sheet-returns-in_err-sheet t c =
-    let p = err_from_is_err_and c.from_residual-in_err-sheet.result c.from_residual-in_err-sheet.ensures.1 in
-    rw (p.1, p.2) (rest-refused c.in_ok-command.ensures c.see-seen.ensures (λ e. c.in_default.not-CloseBlock (c.command_start.ensures ∙ e)) (λ e. c.in_default.not-End (c.command_start.ensures ∙ e)) c.in_err-sheet.ensures)
+pub sheet-returns-in_err-sheet-in_default : goal.sheet-returns-in_err-sheet-in_default
+sheet-returns-in_err-sheet-in_default t c =
+    let p = err_from_is_err_and c.from_residual-in_err-sheet-in_default.result c.from_residual-in_err-sheet-in_default.ensures.1 in
+    rw (p.1, p.2) (rest-refused c.in_ok-command.ensures c.see-seen.ensures (λ e. c.in_default.not-CloseBlock (c.command_start.ensures ∙ e)) (λ e. c.in_default.not-End (c.command_start.ensures ∙ e)) c.in_err-sheet-in_default.ensures)
 
-pub sheet-returns-in_ok-sheet : goal.sheet-returns-in_ok-sheet
-sheet-returns-in_ok-sheet t c = more-commands c.in_ok-command.ensures c.see-seen.ensures c.in_ok-sheet.ensures c.tell.ensures
+pub sheet-returns-in_ok-sheet-in_default : goal.sheet-returns-in_ok-sheet-in_default
+sheet-returns-in_ok-sheet-in_default t c = more-commands c.in_ok-command.ensures c.see-seen.ensures c.in_ok-sheet-in_default.ensures c.tell.ensures
 
 pub while_command-returns-in_err-bracketed : goal.while_command-returns-in_err-bracketed
 while_command-returns-in_err-bracketed t c =

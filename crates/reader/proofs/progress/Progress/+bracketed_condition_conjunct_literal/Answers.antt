@@ -50,16 +50,16 @@ conjunct-returns-in_ok-conjunct t c = two-literals c.see-seen.ensures (sym c.in-
 pub conjunct-returns-in_default : goal.conjunct-returns-in_default
 conjunct-returns-in_default t c = one-literal c.see-seen.ensures (λ e. c.in_default.not-And (c.link.ensures ∙ e)) c.in_ok-literal.ensures
 
-pub literal-returns-in_err-literal : goal.literal-returns-in_err-literal
-literal-returns-in_err-literal t c =
+pub literal-returns-in_err-literal-in-Not : goal.literal-returns-in_err-literal-in-Not
+literal-returns-in_err-literal-in-Not t c =
     let p = err_from_is_err_and c.from_residual.result c.from_residual.ensures.1 in
-    rw (p.1, p.2) (negation-refused c.args.self.now c.see-seen.ensures (sym c.in-Not.ensures) c.pass.ensures c.in_err-literal.ensures)
+    rw (p.1, p.2) (negation-refused c.args.self.now c.see-seen.ensures (sym c.in-Not.ensures) c.pass.ensures c.in_err-literal-in-Not.ensures)
 
 pub literal-returns-in-Truth : goal.literal-returns-in-Truth
 literal-returns-in-Truth t c = truth-read c.in-Truth.value (to_z w32 (of_z w32 c.from.result)) c.requires.within c.see-seen.ensures (sym c.in-Truth.ensures) (bit-back c.in-Truth.value c.from.ensures) c.leaf.ensures
 
-pub literal-returns-in_ok-literal : goal.literal-returns-in_ok-literal
-literal-returns-in_ok-literal t c = negation-read c.see-seen.ensures (sym c.in-Not.ensures) c.pass.ensures c.in_ok-literal.ensures c.tell.ensures
+pub literal-returns-in_ok-literal-in-Not : goal.literal-returns-in_ok-literal-in-Not
+literal-returns-in_ok-literal-in-Not t c = negation-read c.see-seen.ensures (sym c.in-Not.ensures) c.pass.ensures c.in_ok-literal-in-Not.ensures c.tell.ensures
 
 pub literal-returns-then-opens_condition : goal.literal-returns-then-opens_condition
 literal-returns-then-opens_condition t c = bracket-answers c.args.self.now c.bracketed.new.self c.args.rows.now c.bracketed.new.rows c.bracketed.result c.see-seen.ensures (sym c.in-Bracket.ensures) c.if-opens_condition.ensures c.bracketed.ensures

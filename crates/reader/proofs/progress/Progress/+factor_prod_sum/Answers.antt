@@ -11,24 +11,24 @@ use Rattle.reader.proofs.Nexts.{name-taken, additive-taken, multiplicative-taken
 use Rattle.reader.proofs.Summed.{number_read, name-read, no-factor, bracket-barred, bracket-refused, bracket-unclosed, bracket-read, prod-first, prod-refused, prod-turn, sum_first, sum-refused, sum-turn, sum-read}
 use Rattle.reader.proofs.progress.Progress.+factor_prod_sum.Goals as goal
 
-pub factor-returns-in_err-enter : goal.factor-returns-in_err-enter
-factor-returns-in_err-enter t c =
+pub factor-returns-in_err-enter-in-Bracket : goal.factor-returns-in_err-enter-in-Bracket
+factor-returns-in_err-enter-in-Bracket t c =
     let p = err_from_is_err_and c.from_residual.result c.from_residual.ensures.1 in
-    rw (p.1, p.2) (bracket-barred c.see-seen.ensures (sym c.in-Bracket.ensures) (barred c.in_err-enter.ensures))
+    rw (p.1, p.2) (bracket-barred c.see-seen.ensures (sym c.in-Bracket.ensures) (barred c.in_err-enter-in-Bracket.ensures))
 
-pub factor-returns-in_err-sum : goal.factor-returns-in_err-sum
-factor-returns-in_err-sum t c =
-    let p = err_from_is_err_and c.from_residual-in_err-sum.result c.from_residual-in_err-sum.ensures.1 in
-    rw (p.1, p.2) (bracket-refused c.see-seen.ensures (sym c.in-Bracket.ensures) (entered c.in_ok-enter.ensures) c.in_err-sum.ensures)
+pub factor-returns-in_err-sum-in-Bracket : goal.factor-returns-in_err-sum-in-Bracket
+factor-returns-in_err-sum-in-Bracket t c =
+    let p = err_from_is_err_and c.from_residual-in_err-sum-in-Bracket.result c.from_residual-in_err-sum-in-Bracket.ensures.1 in
+    rw (p.1, p.2) (bracket-refused c.see-seen.ensures (sym c.in-Bracket.ensures) (entered c.in_ok-enter-in-Bracket.ensures) c.in_err-sum-in-Bracket.ensures)
 
-pub factor-returns-in_err-expect : goal.factor-returns-in_err-expect
-factor-returns-in_err-expect t c =
-    let p = err_from_is_err_and c.from_residual-in_err-expect.result c.from_residual-in_err-expect.ensures.1 in
-    rw (p.1, p.2) (bracket-unclosed c.see-seen.ensures (sym c.in-Bracket.ensures) (entered c.in_ok-enter.ensures) c.in_ok-sum.ensures c.in_err-expect.ensures)
+pub factor-returns-in_err-expect-in-Bracket : goal.factor-returns-in_err-expect-in-Bracket
+factor-returns-in_err-expect-in-Bracket t c =
+    let p = err_from_is_err_and c.from_residual-in_err-expect-in-Bracket.result c.from_residual-in_err-expect-in-Bracket.ensures.1 in
+    rw (p.1, p.2) (bracket-unclosed c.see-seen.ensures (sym c.in-Bracket.ensures) (entered c.in_ok-enter-in-Bracket.ensures) c.in_ok-sum-in-Bracket.ensures c.in_err-expect-in-Bracket.ensures)
 
-pub factor-returns-in_ok-expect : goal.factor-returns-in_ok-expect
-factor-returns-in_ok-expect t c =
-    bracket-read _ c.see-seen.ensures (sym c.in-Bracket.ensures) (entered c.in_ok-enter.ensures) c.in_ok-sum.ensures c.in_ok-expect.ensures refl refl refl
+pub factor-returns-in_ok-expect-in-Bracket : goal.factor-returns-in_ok-expect-in-Bracket
+factor-returns-in_ok-expect-in-Bracket t c =
+    bracket-read _ c.see-seen.ensures (sym c.in-Bracket.ensures) (entered c.in_ok-enter-in-Bracket.ensures) c.in_ok-sum-in-Bracket.ensures c.in_ok-expect-in-Bracket.ensures refl refl refl
 
 pub factor-returns-in-Number : goal.factor-returns-in-Number
 factor-returns-in-Number t c =
