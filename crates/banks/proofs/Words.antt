@@ -2,7 +2,8 @@
 -- points laid out and the spare bytes are all the bytes there are.
 use Rattle.std.proofs.Common.{◌≡◌, ℕ, zero, suc, ◌+◌, ◌*◌, ◌/◌, ◌%◌, ◌^◌, ◌<◌, ◌≤◌, min, List, [], ◌∷◌, ◌++◌, length, get_or, take, drop, set, ℤ, pos, sym, refl, ap, ◌∙◌, le_of_suc-le-suc, not-suc-le-zero, arith, w8, w32, Fits, SFits, to_z, of_z}
 use Rattle.std.proofs.lemmas.Int.{to_z-of_z, of_z-to_z, ints}
-use Rattle.banks.specs.Kept.{number, four, words, after, laid, put, numbers_in, spare}
+use Rattle.std.proofs.lemmas.List.{drop-drop}
+use Rattle.banks.specs.Kept.{number, four, put_at, words, after, laid, put, numbers_in, spare}
 
 pub length-words : (n : ℕ) (bs : List ℕ) → length (words n bs) ≡ min n (length bs / 4)
 unfolding words
@@ -45,9 +46,13 @@ number-four v f =
     let u : of_z w32 v < 2 ^ 32 = omega (arith, ints) in
     rw (whole (of_z w32 v) u) (to_z-of_z w32 v f)
 
+-- a point's four bytes are put where the code puts them
+pub put_at-put : (bs : List ℕ) (p : ℕ) (v : ℤ) → put_at bs (4 * p) v ≡ put bs p v
+put_at-put bs p v = ap (λ (rest : List ℕ). take (4 * p) bs ++ (four v ++ rest)) (drop-drop 4 (4 * p) bs)
+
 -- what a write to a point leaves
 pub put_on : (a b c d : ℕ) (bs : List ℕ) (p : ℕ) (v : ℤ) → put (a ∷ b ∷ c ∷ d ∷ bs) (suc p) v ≡ a ∷ b ∷ c ∷ d ∷ put bs p v
-put_on a b c d bs p v = rw four-on refl
+put_on a b c d bs p v = rw (four-on-by p 4, four-on p) refl
 
 pub words-put : (n : ℕ) (bs : List ℕ) (p : ℕ) (v : ℤ) → SFits w32 v → p < length (words n bs) → words n (put bs p v) ≡ set (words n bs) p v
 unfolding words

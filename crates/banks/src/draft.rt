@@ -28,11 +28,11 @@ impl<'a, B: Bank> Draft<'a, B> {
 
     // The writes go down, and the draft is blank again.
     pub fn keep(&mut self)
-        ensures value { (points (ground self.new), saved self.new) ≡ opened (shown points self.old) }
-        ensures same { fixed (ground self.new) ≡ fixed (ground self.old) }
+        ensures value { (B.points (ground self.new), saved self.new) ≡ opened (shown B.points self.old) }
+        ensures same { B.fixed (ground self.new) ≡ B.fixed (ground self.old) }
         ensures loan { self.new.below.ghost_name ≡ self.old.below.ghost_name }
-        ensures direct { Direct (points (ground self.old)) (saved self.old) (points (ground self.new)) }
-        ensures one { AsOne (points (ground self.old)) (saved self.old) (points (ground self.new)) }
+        ensures direct { Direct (B.points (ground self.old)) (saved self.old) (B.points (ground self.new)) }
+        ensures one { AsOne (B.points (ground self.old)) (saved self.old) (B.points (ground self.new)) }
     {
         let Draft { below, over } = self;
         over.keep(&mut **below);

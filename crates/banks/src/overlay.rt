@@ -26,7 +26,7 @@ impl Overlay {
     }
 
     pub fn read<B: Bank>(&self, bank: &B, point: usize) -> Reading
-        ensures { result.value ≡ told (overlaid (points bank.now) self.now.held) point }
+        ensures { result.value ≡ told (overlaid (B.points bank.now) self.now.held) point }
     {
         if point >= bank.count() {
             return Reading { value: None };
@@ -36,8 +36,8 @@ impl Overlay {
 
     // The bank is borrowed to know where its points end.
     pub fn write<B: Bank>(&mut self, bank: &B, point: usize, value: i32) -> Result<Writing, Fault>
-        ensures value { (answer result, self.new.held) ≡ noted (length (points bank.now)) self.old.held point value }
-        ensures seen { (answer result, overlaid (points bank.now) self.new.held) ≡ wrote (overlaid (points bank.now) self.old.held) point value }
+        ensures value { (answer result, self.new.held) ≡ noted (length (B.points bank.now)) self.old.held point value }
+        ensures seen { (answer result, overlaid (B.points bank.now) self.new.held) ≡ wrote (overlaid (B.points bank.now) self.old.held) point value }
     {
         let count = bank.count();
         self.note(count, point, value)
@@ -57,10 +57,10 @@ impl Overlay {
 
     // Each saved point is written down once, in point order.
     pub fn keep<B: Bank>(&self, bank: &mut B)
-        ensures value { points bank.new ≡ overlaid (points bank.old) self.now.held }
-        ensures same { fixed bank.new ≡ fixed bank.old }
-        ensures direct { Direct (points bank.old) self.now.held (points bank.new) }
-        ensures one { AsOne (points bank.old) self.now.held (points bank.new) }
+        ensures value { B.points bank.new ≡ overlaid (B.points bank.old) self.now.held }
+        ensures same { B.fixed bank.new ≡ B.fixed bank.old }
+        ensures direct { Direct (B.points bank.old) self.now.held (B.points bank.new) }
+        ensures one { AsOne (B.points bank.old) self.now.held (B.points bank.new) }
     {
         let count = bank.count();
         for point in 0..count {
@@ -73,7 +73,7 @@ impl Overlay {
 
 // The number on top where there is one, else what the bank below tells.
 fn seen<B: Bank>(on_top: Option<i32>, bank: &B, point: usize) -> Reading
-    ensures { result.value ≡ first on_top (told (points bank.now) point) }
+    ensures { result.value ≡ first on_top (told (B.points bank.now) point) }
 {
     match on_top {
         Some(value) => Reading { value: Some(value) },
