@@ -7,15 +7,15 @@ ghost use Rattle.banks.specs.Kept.{numbers_in, spare, laid};
 use banks::{Bank, Draft, Kept};
 
 fn seven<B: Bank>(bank: &mut B)
-    ensures value { points bank.new ≡ (wrote (points bank.old) 0 (pos 7)).1 }
-    ensures same { fixed bank.new ≡ fixed bank.old }
+    ensures value { B.points bank.new ≡ (wrote (B.points bank.old) 0 (pos 7)).1 }
+    ensures same { B.fixed bank.new ≡ B.fixed bank.old }
 {
     let _ = bank.write(0, 7);
 }
 
 fn seven_kept<B: Bank>(bank: &mut B)
-    ensures value { points bank.new ≡ (wrote (points bank.old) 0 (pos 7)).1 }
-    ensures same { fixed bank.new ≡ fixed bank.old }
+    ensures value { B.points bank.new ≡ (wrote (B.points bank.old) 0 (pos 7)).1 }
+    ensures same { B.fixed bank.new ≡ B.fixed bank.old }
 {
     let mut draft = Draft::new(bank);
     seven(&mut draft);
@@ -23,8 +23,8 @@ fn seven_kept<B: Bank>(bank: &mut B)
 }
 
 fn seven_discarded<B: Bank>(bank: &mut B)
-    ensures value { points bank.new ≡ points bank.old }
-    ensures same { fixed bank.new ≡ fixed bank.old }
+    ensures value { B.points bank.new ≡ B.points bank.old }
+    ensures same { B.fixed bank.new ≡ B.fixed bank.old }
 {
     let mut draft = Draft::new(bank);
     seven_kept(&mut draft);
