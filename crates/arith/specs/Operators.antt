@@ -1,6 +1,6 @@
 -- What the four operators give. A reader can believe it because it is whole-number arithmetic, which has no
 -- limits, and one rule apart from it for what happens at the limits of signed 32 bits.
-use Rattle.std.specs.Prelude.{ℕ, zero, suc, Bool, true, false, cond, ℤ, pos, negsuc, ◌+ℤ◌, ◌-ℤ◌, ◌*ℤ◌, Ok, Err, Result, int_div}
+use Rattle.std.specs.Prelude.{zero, suc, Bool, true, false, cond, ℤ, pos, negsuc, ◌+ℤ◌, ◌-ℤ◌, ◌*ℤ◌, Ok, Err, Result, int_div}
 use Rattle.std.specs.Int.{int_wrap, w32}
 use Rattle.faults.specs.declared.causes.RunCause.{RunCause}
 use Rattle.faults.specs.declared.causes.RunCause.TheVariants.{ZeroDivisor}

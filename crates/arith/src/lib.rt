@@ -1,5 +1,7 @@
 // Signed 32-bit arithmetic: the one leaf that the screen and the station share, so that no number can come out
 // differently on the two.
+#![tactic(auto)]
+
 mod comparison;
 mod operator;
 

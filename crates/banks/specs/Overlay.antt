@@ -1,7 +1,7 @@
 -- Writes that lie on top of a bank. For each of 64 points an overlay holds a number, or none where nothing was
 -- written; what the bank and the overlay show together is the number on top where there is one, else the one below.
 -- To keep the writes is to make that list the bank's own.
-use Rattle.std.specs.Prelude.{ℕ, cond, List, [], ◌∷◌, length, replicate, ℤ, Some, None, Ok, Err, Option, Result, nat_lt, slice_set}
+use Rattle.std.specs.Prelude.{ℕ, cond, List, [], ◌∷◌, replicate, ℤ, Some, None, Ok, Err, Option, Result, nat_lt, slice_set}
 use Rattle.faults.specs.declared.fault.Fault.{Fault}
 use Rattle.banks.specs.Points.{no_point}
 

@@ -1,4 +1,6 @@
 // Banks: where a station's points stand, and the drafts that lie over them.
+#![tactic(auto)]
+
 mod bank;
 mod draft;
 mod kept;

@@ -1,5 +1,5 @@
 -- What is laid of a table that is not refused is its sheet's code; and the laws of compiling follow from its value.
-use Rattle.std.proofs.Common.{◌≡◌, ℕ, ◌≤◌, min, true, false, List, [], ◌∷◌, length, take, is_ok, Some, None, Ok, Err, Option, Result, sym, refl, ap, ◌∙◌, subst, zero-add, arith}
+use Rattle.std.proofs.Common.{◌≡◌, ℕ, ◌≤◌, min, List, [], ◌∷◌, length, take, is_ok, Some, None, Ok, Err, Option, Result, sym, refl, ap, ◌∙◌, subst, zero-add, arith}
 use Rattle.std.proofs.lemmas.Bool.{le-leb, false≢true}
 use Rattle.faults.specs.declared.fault.Fault.{Fault}
 use Rattle.instructions.specs.declared.instruction.Instruction.{Instruction}

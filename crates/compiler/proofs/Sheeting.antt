@@ -10,7 +10,7 @@ use Rattle.tables.specs.Rows.{bit, sheet_rows}
 use Rattle.tables.specs.Values.{sum_value, condition_value, command_value, sheet_value}
 use Rattle.tables.specs.Passes.{passes}
 use Rattle.tables.proofs.Passing.{pass-sheet}
-use Rattle.compiler.specs.Sheets.{sum, condition, command, sheet, as_sheet, truth_of, comparison_of, tree_sums, tree_rest, left_tree, sheet_of}
+use Rattle.compiler.specs.Sheets.{sum, condition, command, as_sheet, truth_of, comparison_of, tree_sums, tree_rest, left_tree, sheet_of}
 
 pub comparison-back : (k : Comparison) → comparison_of (pos (comparison_number k)) ≡ k
 comparison-back Less = refl

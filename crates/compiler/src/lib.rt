@@ -1,4 +1,6 @@
 // Stack code from a table.
+#![tactic(auto)]
+
 mod compiling;
 mod lay;
 mod measure;

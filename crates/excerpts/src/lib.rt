@@ -1,4 +1,6 @@
 // A place in a text, as people look for it: the line, the column, and a caret under the place.
+#![tactic(auto)]
+
 mod excerpt;
 
 pub use excerpt::{Excerpt, line_at};

@@ -1,4 +1,6 @@
 // Refusals: every one carries its layer, its number and one figure more.
+#![tactic(auto)]
+
 mod causes;
 mod fault;
 mod words;

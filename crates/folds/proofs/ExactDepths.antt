@@ -1,11 +1,11 @@
 -- On a table, depths counted in 32 bits are the depths.
-use Rattle.std.proofs.Common.{◌≡◌, ℕ, suc, ◌+◌, ◌*◌, ◌<◌, ◌≤◌, min, max, List, length, Ok, Result, sym, refl, ap, ◌∙◌, subst, arith}
+use Rattle.std.proofs.Common.{◌≡◌, ℕ, ◌+◌, ◌*◌, ◌≤◌, min, max, List, length, Ok, Result, refl, ap, ◌∙◌, arith}
 use Rattle.faults.specs.declared.fault.Fault.{Fault}
 use Rattle.arith.specs.declared.operator.Operator.TheVariants as operator
 use Rattle.tables.specs.declared.row.Row.{Row}
 use Rattle.tables.specs.declared.sort.Sort.TheVariants as sort
 use Rattle.tables.specs.Trees.{Sum, number, name, work, both, either, Condition, truth, compare, negate, connect, Command, set, when, choose, while, Sheet, only, joint}
-use Rattle.tables.specs.Rows.{sum_size, condition_size, command_size, sheet_size, sheet_rows}
+use Rattle.tables.specs.Rows.{sum_size, condition_size, command_size, sheet_size}
 use Rattle.tables.specs.Values.{sum_value, condition_value, command_value, sheet_value}
 use Rattle.tables.proofs.OfSort.{length-in}
 use Rattle.folds.specs.Folds.{Folds, Measures}

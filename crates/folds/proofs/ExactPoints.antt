@@ -1,5 +1,5 @@
 -- On a table over at most 64 points, every point has its bit.
-use Rattle.std.proofs.Common.{◌≡◌, ℕ, suc, ◌+◌, ◌^◌, ◌<◌, ◌≤◌, List, length, pos, Ok, Result, sym, refl, ap, ◌∙◌, subst, arith}
+use Rattle.std.proofs.Common.{◌≡◌, ℕ, ◌^◌, ◌<◌, ◌≤◌, List, pos, Ok, Result, refl, ap, ◌∙◌, arith}
 use Rattle.faults.specs.declared.fault.Fault.{Fault}
 use Rattle.arith.specs.declared.operator.Operator.TheVariants as operator
 use Rattle.tables.specs.declared.row.Row.{Row}

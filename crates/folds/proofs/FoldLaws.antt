@@ -1,14 +1,14 @@
 -- Why a fold is the tree's value, and why its pass never finds the stack too empty.
-use Rattle.std.proofs.Common.{◌≡◌, ℕ, ◌+◌, ◌<◌, ◌≤◌, Bool, true, false, cond, ◌||◌, ltb, leb, List, [], ◌∷◌, ◌++◌, length, get_or, drop, Some, None, Ok, Err, Option, Result, sym, refl, ap, ◌∙◌, subst, append-nil, arith}
+use Rattle.std.proofs.Common.{◌≡◌, ℕ, ◌+◌, ◌<◌, ◌≤◌, Bool, true, false, cond, ◌||◌, ltb, leb, List, [], ◌∷◌, length, get_or, drop, Some, None, Ok, Err, Option, Result, sym, refl, ap, ◌∙◌, subst, append-nil, arith}
 use Rattle.std.proofs.lemmas.List.{at_drop_more, at_drop_all}
-use Rattle.std.proofs.lemmas.Bool.{le-ltb, le-leb, or_from, or_left, or_right, lt-ltb}
+use Rattle.std.proofs.lemmas.Bool.{le-ltb, le-leb, or_from}
 use Rattle.faults.specs.declared.fault.Fault.{Fault}
 use Rattle.tables.specs.declared.kind.Kind.{Kind}
 use Rattle.tables.specs.declared.kind.Kind.TheVariants.{Number, Name, Add, Sub, Mul, Div, Truth, Compare, Not, And, Or, Set, If, IfElse, While, Joint}
 use Rattle.tables.specs.declared.row.Row.{Row}
 use Rattle.tables.specs.Trees.{Sheet}
 use Rattle.tables.specs.Rows.{blank, sheet_rows}
-use Rattle.tables.specs.Tables.{Table, SheetOver}
+use Rattle.tables.specs.Tables.{Table}
 use Rattle.tables.specs.Checks.{and_then, is_table, table_checked, no_table_fault, too_many_points}
 use Rattle.tables.specs.Values.{Sums, Rest, sheet_value}
 use Rattle.tables.specs.Passes.{on_one, on_two, on_three, passed, passes}

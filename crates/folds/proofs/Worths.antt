@@ -1,5 +1,5 @@
 -- A row's value, by how many parts it has: they are what the stack has on top.
-use Rattle.std.proofs.Common.{◌≡◌, ℕ, ◌≤◌, List, [], ◌∷◌, length, get_or, drop, Some, None, Option, sym, refl, ap, ◌∙◌, arith}
+use Rattle.std.proofs.Common.{◌≡◌, ◌≤◌, List, [], ◌∷◌, length, get_or, drop, Some, sym, ap, ◌∙◌, arith}
 use Rattle.tables.specs.Passes.{on_one, on_two, on_three}
 
 module _ {V : Type 0} where

@@ -2,7 +2,6 @@
 -- algebra has no bit for a value that is no point below 64; in a table there is none, which is the law `exact` of the
 -- call.
 use Rattle.std.specs.Prelude.{ℕ, ◌^◌, cond, ℤ, pos, negsuc, bit_or, nat_lt}
-use Rattle.tables.specs.declared.row.Row.{Row}
 use Rattle.tables.specs.Trees.{Sum, number, name, work, Condition, truth, compare, negate, connect, Command, set, when, choose, while, Sheet, only, joint}
 use Rattle.tables.specs.Values.{Sums, Rest}
 

@@ -2,8 +2,7 @@
 -- conditions the larger of left and one more than right, since the right part is worked out above the left one's
 -- value; otherwise the greatest of the parts, since commands leave nothing behind. The algebra counts in 32 bits and
 -- stops at the largest number; on a table it never comes there, which is the law `exact` of the call.
-use Rattle.std.specs.Prelude.{ℕ, suc, ◌+◌, min, max}
-use Rattle.tables.specs.declared.row.Row.{Row}
+use Rattle.std.specs.Prelude.{ℕ, ◌+◌, min, max}
 use Rattle.tables.specs.Trees.{Sum, number, name, work, Condition, truth, compare, negate, connect, Command, set, when, choose, while, Sheet, only, joint}
 use Rattle.tables.specs.Values.{Sums, Rest}
 

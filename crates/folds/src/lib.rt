@@ -1,4 +1,6 @@
 // Working a table out in any algebra, in one pass over its rows and in memory that the caller lends.
+#![tactic(auto)]
+
 mod algebra;
 mod depths;
 mod folding;

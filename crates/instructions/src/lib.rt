@@ -1,4 +1,6 @@
 // The station's instructions, with what each takes from the stack and leaves on it.
+#![tactic(auto)]
+
 mod effect;
 mod instruction;
 

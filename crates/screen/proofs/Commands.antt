@@ -3,7 +3,7 @@ use Rattle.std.proofs.Common.{◌≡◌, ℕ, ◌+◌, ◌-◌, ◌<◌, ◌≤�
 use Rattle.faults.specs.declared.causes.RunCause.{RunCause}
 use Rattle.tables.specs.declared.row.Row.{Row}
 use Rattle.tables.specs.declared.sort.Sort.TheVariants as sort
-use Rattle.tables.specs.Trees.{Sum, set, Sheet, only}
+use Rattle.tables.specs.Trees.{Sum, set, only}
 use Rattle.screen.specs.Works.{Points, Out, done, stop, after, sum_work, cost}
 use Rattle.screen.specs.Model.{set-ends, set-stops, Ends, only-ends}
 use Rattle.tables.specs.Rows.{blank, sum_size}

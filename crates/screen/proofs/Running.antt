@@ -1,5 +1,5 @@
 -- How the commands run within an allowance, from how their parts do.
-use Rattle.std.proofs.Common.{◌≡◌, ℕ, ◌+◌, ◌-◌, ◌≤◌, Bool, true, false, cond, leb, sym, refl, ap, ◌∙◌, subst, arith}
+use Rattle.std.proofs.Common.{◌≡◌, ℕ, ◌+◌, ◌≤◌, Bool, true, false, cond, leb, sym, refl, ap, ◌∙◌, subst, arith}
 use Rattle.std.proofs.lemmas.Bool.{leb-true, leb-false}
 use Rattle.tables.specs.Trees.{Condition, Command, when, choose, while, Sheet, only, joint}
 use Rattle.screen.specs.declared.value.Run.{Run}

@@ -1,7 +1,7 @@
 -- The state model as a function of a number of rounds: with enough of them it is the outcome, with too few it is lost.
 -- More rounds than the cost are always enough, since every turn of a loop costs at least three steps.
 use Rattle.std.specs.Prelude.{ℕ, zero, suc, Bool, true, false, set as put}
-use Rattle.tables.specs.Trees.{number, Command, set, when, choose, while, Sheet, only, joint}
+use Rattle.tables.specs.Trees.{Command, set, when, choose, while, Sheet, only, joint}
 use Rattle.screen.specs.Works.{Points, Out, done, lost, after, then, sum_work, condition_work}
 
 abbrev pub fork : Bool → (Points → Out Points) → (Points → Out Points) → Points → Out Points

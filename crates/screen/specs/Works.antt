@@ -6,7 +6,7 @@ use Rattle.std.proofs.Math.Bool as bool
 use Rattle.faults.specs.declared.causes.RunCause.{RunCause}
 use Rattle.arith.specs.Operators.{worked}
 use Rattle.arith.specs.Comparisons.{holds}
-use Rattle.tables.specs.Trees.{Sum, number, name, work, Connective, both, either, Condition, truth, compare, negate, connect, only}
+use Rattle.tables.specs.Trees.{Sum, number, name, work, Connective, both, either, Condition, truth, compare, negate, connect}
 
 abbrev pub Points : Type 0
 Points = List ℤ

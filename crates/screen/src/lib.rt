@@ -1,4 +1,6 @@
 // The screen: works a sheet out from its table.
+#![tactic(auto)]
+
 mod answer;
 mod assign;
 mod condition;

@@ -1,5 +1,5 @@
 -- What is laid out is read back: a count, an instruction, a run of fields, and then the file.
-use Rattle.std.proofs.Common.{◌≡◌, ℕ, suc, ◌+◌, ◌*◌, ◌<◌, ◌≤◌, true, cond, leb, List, [], ◌∷◌, ◌++◌, length, drop, Some, None, Ok, Err, Result, sym, refl, ap, ◌∙◌, arith}
+use Rattle.std.proofs.Common.{◌≡◌, ℕ, suc, ◌+◌, ◌*◌, ◌<◌, ◌≤◌, true, leb, List, [], ◌∷◌, ◌++◌, length, drop, Some, None, Ok, Result, sym, refl, ap, ◌∙◌, arith}
 use Rattle.std.specs.List.{flat_map}
 use Rattle.std.proofs.lemmas.List.{append_assoc, append-nil, length-append, drop_at, drop-drop}
 use Rattle.std.proofs.lemmas.Bool.{cond-true, and_parts, and_from, leb-true, le-leb}
@@ -8,7 +8,7 @@ use Rattle.instructions.specs.declared.instruction.Instruction.{Instruction}
 use Rattle.instructions.specs.Codes.{code_of}
 use Rattle.station_file.specs.Layout.{Contents, two_bytes, four_bytes, operand_of, instruction_bytes, code_section, places_section, file_bytes}
 use Rattle.station_file.specs.Rules.{within, Each, RightInstruction, RightPlace, Right}
-use Rattle.station_file.specs.Reading.{then, or_wrong, four_of, counted, count_field, code_byte, with_operand, instruction_field, place_field, fields, contents, reading}
+use Rattle.station_file.specs.Reading.{then, or_wrong, four_of, counted, count_field, code_byte, with_operand, instruction_field, place_field, fields, reading}
 use Rattle.station_file.proofs.Eachs.{each-parts}
 use Rattle.station_file.proofs.Sectioned.{length-code, length-places}
 use Rattle.station_file.proofs.Digits.{two_back, four-back}

@@ -1,7 +1,6 @@
 -- The reading of a whole file, from what was read field by field.
-use Rattle.std.proofs.Common.{◌≡◌, ℕ, ◌+◌, ◌*◌, ◌<◌, ◌≤◌, List, [], ◌∷◌, length, drop, Ok, Err, Result, sym, refl, ap, ◌∙◌, arith}
+use Rattle.std.proofs.Common.{◌≡◌, ℕ, ◌+◌, ◌*◌, ◌<◌, ◌≤◌, List, [], ◌∷◌, length, drop, Ok, Err, sym, refl, ap, ◌∙◌, arith}
 use Rattle.std.proofs.lemmas.List.{length-drop, drop_all}
-use Rattle.faults.specs.declared.fault.Fault.{Fault}
 use Rattle.instructions.specs.declared.instruction.Instruction.{Instruction}
 use Rattle.station_file.specs.Layout.{Contents}
 use Rattle.station_file.specs.Writing.{not_right}

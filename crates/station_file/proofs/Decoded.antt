@@ -1,5 +1,5 @@
 -- Instructions and their codes and operands, both ways.
-use Rattle.std.proofs.Common.{◌≡◌, ℕ, ◌^◌, ◌<◌, ◌≤◌, Bool, true, false, cond, eqb, ltb, leb, Some, None, Option, sym, refl, ap, ◌∙◌, subst, arith, w32, Fits, SFits, to_z, of_z}
+use Rattle.std.proofs.Common.{◌≡◌, ℕ, ◌^◌, ◌<◌, ◌≤◌, true, eqb, ltb, leb, Some, None, Option, sym, refl, ap, ◌∙◌, subst, arith, w32, SFits, to_z}
 use borrow.Author.Gap.{read_sfits}
 use Rattle.std.proofs.lemmas.Bool.{cond-true, cond_both, eqb-true, ltb-true, leb-true}
 use Rattle.std.proofs.lemmas.Int.{to_z-of_z, of_z-to_z, ints}
@@ -11,7 +11,7 @@ use Rattle.instructions.specs.declared.instruction.Instruction.TheVariants.{Push
 use Rattle.instructions.specs.Codes.{code_of}
 use Rattle.station_file.specs.Layout.{operand_of}
 use Rattle.station_file.specs.Rules.{RightInstruction}
-use Rattle.station_file.specs.Operands.{plain, on_point, to_address, comparing, decoded}
+use Rattle.station_file.specs.Operands.{plain, comparing, decoded}
 
 pub code-low : (i : Instruction) → leb (code_of i) 13 ≡ true
 code-low (Push n) = refl

@@ -1,5 +1,5 @@
 -- Fields of one kind, read one after another into slots.
-use Rattle.std.proofs.Common.{◌≡◌, ℕ, zero, suc, ◌+◌, ◌-◌, ◌*◌, ◌<◌, ◌≤◌, List, [], ◌∷◌, ◌++◌, length, take, drop, set, Ok, Err, Result, sym, refl, ap, ◌∙◌, mul-add, arith}
+use Rattle.std.proofs.Common.{◌≡◌, ℕ, suc, ◌+◌, ◌-◌, ◌*◌, ◌<◌, List, [], ◌∷◌, ◌++◌, length, take, drop, set, Ok, Err, Result, sym, refl, ap, ◌∙◌, mul-add, arith}
 use Rattle.std.proofs.lemmas.List.{drop-drop, take_more_set}
 use Rattle.faults.specs.declared.fault.Fault.{Fault}
 use Rattle.station_file.specs.Reading.{then, fields}

@@ -1,4 +1,6 @@
 // The station file: one layout, written in states and read back.
+#![tactic(auto)]
+
 mod bytes;
 mod fields;
 mod file;

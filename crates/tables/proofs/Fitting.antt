@@ -1,5 +1,5 @@
 -- Rows that fit up to some place, each of them, and the test of the whole.
-use Rattle.std.proofs.Common.{◌≡◌, ℕ, zero, suc, ◌+◌, ◌<◌, ◌≤◌, Bool, true, false, ◌&&◌, leb, ◌⊎◌, List, length, sym, refl, ap, ◌∙◌, subst, inl, inr, add-one, arith}
+use Rattle.std.proofs.Common.{◌≡◌, ℕ, zero, suc, ◌+◌, ◌<◌, ◌≤◌, Bool, true, false, ◌&&◌, leb, List, length, sym, refl, ap, ◌∙◌, subst, inl, inr, add-one, arith}
 use Rattle.std.proofs.lemmas.Bool.{and_parts, and_from, and_left, and_right, cases_order, false≢true, le-leb, lt-leb}
 use Rattle.tables.specs.declared.row.Row.{Row}
 use Rattle.tables.specs.Checks.{fits_at, fit_up_to, whole_sheet, is_table}

@@ -1,7 +1,7 @@
 -- Where every row fits, each row is the last of a tree's rows: so the check accepts only tables.
-use Rattle.std.proofs.Common.{◌≡◌, ℕ, zero, suc, ◌+◌, ◌-◌, ◌<◌, ◌≤◌, Bool, true, false, cond, ◌&&◌, eqb, ltb, leb, ◌⊎◌, List, [], ◌∷◌, ◌++◌, length, get_or, take, ℤ, pos, negsuc, Some, None, Option, sym, refl, ap, ◌∙◌, subst, inl, inr, add-one, arith}
+use Rattle.std.proofs.Common.{◌≡◌, ℕ, zero, suc, ◌+◌, ◌-◌, ◌<◌, ◌≤◌, Bool, true, false, cond, ◌&&◌, eqb, leb, List, [], ◌∷◌, ◌++◌, length, get_or, take, ℤ, pos, negsuc, Some, None, Option, sym, refl, ap, ◌∙◌, subst, inl, inr, add-one, arith}
 use Rattle.std.proofs.lemmas.List.{append_assoc, take_more, take_all}
-use Rattle.std.proofs.lemmas.Bool.{and_parts, eqb-true, eqb-false, leb-true, ltb-true, cases_Bool, cases_order, false≢true}
+use Rattle.std.proofs.lemmas.Bool.{and_parts, eqb-true, eqb-false, leb-true, ltb-true, cases_order, false≢true}
 use Rattle.arith.specs.declared.operator.Operator.TheVariants as operator
 use Rattle.arith.specs.declared.comparison.Comparison.{Comparison}
 use Rattle.arith.specs.declared.comparison.Comparison.TheVariants.{Less, LessOrEqual, Greater, GreaterOrEqual, Equal, NotEqual}
@@ -11,14 +11,13 @@ use Rattle.tables.specs.declared.kind.Kind.TheVariants.{Number, Name, Add, Sub, 
 use Rattle.tables.specs.declared.row.Row.{Row}
 use Rattle.tables.specs.declared.sort.Sort as sort
 use Rattle.tables.specs.declared.sort.Sort.TheVariants.{Sum, Condition, Command, Sheet}
-use Rattle.tables.specs.Trees as tree
 use Rattle.tables.specs.Trees.{number, name, work, both, either, truth, compare, negate, connect, set, when, choose, while, only, joint}
-use Rattle.tables.specs.Rows.{blank, row, bit, sheet_rows}
+use Rattle.tables.specs.Rows.{blank, row, bit}
 use Rattle.tables.specs.Tables.{Table}
 use Rattle.tables.specs.Sorts.{sort_of, parts_of, serves_as}
 use Rattle.tables.specs.Checks.{allowed_value, below, and_then, start_by, part_start, first_start, sized, fits_at, fit_up_to, from_start, whole_sheet, is_table}
 use Rattle.tables.proofs.Fitting.{each_fits}
-use Rattle.tables.proofs.OfSort.{Of, rows_in, size_in, OverIn, some-rows}
+use Rattle.tables.proofs.OfSort.{Of, rows_in, size_in, OverIn}
 
 -- what a test tells
 

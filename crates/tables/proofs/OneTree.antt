@@ -1,5 +1,5 @@
 -- No two sheets have the same rows: a pass over rows in the algebra of trees themselves gives the tree back.
-use Rattle.std.proofs.Common.{◌≡◌, ℕ, zero, suc, Bool, true, false, List, [], ◌∷◌, ◌++◌, ℤ, pos, negsuc, nat_abs, Some, None, Option, sym, refl, ap, ◌∙◌, append-nil}
+use Rattle.std.proofs.Common.{◌≡◌, zero, suc, Bool, true, false, List, [], ◌∷◌, ℤ, pos, negsuc, nat_abs, Some, None, Option, sym, refl, ap, ◌∙◌, append-nil}
 use Rattle.arith.specs.declared.operator.Operator.TheVariants as operator
 use Rattle.arith.specs.declared.comparison.Comparison.{Comparison}
 use Rattle.arith.specs.declared.comparison.Comparison.TheVariants.{Less, LessOrEqual, Greater, GreaterOrEqual, Equal, NotEqual}

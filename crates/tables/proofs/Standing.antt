@@ -1,6 +1,6 @@
 -- The rows of a tree fit, wherever they stand: so the check accepts every table.
-use Rattle.std.proofs.Common.{◌≡◌, ℕ, suc, ◌+◌, ◌-◌, ◌<◌, ◌≤◌, Bool, true, false, cond, ◌&&◌, eqb, ltb, leb, List, [], ◌∷◌, ◌++◌, length, get_or, ℤ, pos, Some, None, Option, sym, refl, ap, ◌∙◌, subst, arith}
-use Rattle.std.proofs.lemmas.List.{get_or_append_left, get_or-append-add, get_or_at, length-append, append-nil}
+use Rattle.std.proofs.Common.{◌≡◌, ℕ, suc, ◌+◌, ◌-◌, ◌<◌, ◌≤◌, Bool, true, false, cond, ◌&&◌, eqb, leb, List, [], ◌∷◌, ◌++◌, length, get_or, ℤ, pos, Some, None, Option, refl, ap, ◌∙◌, subst, arith}
+use Rattle.std.proofs.lemmas.List.{get_or_append_left, get_or-append-add, get_or_at, length-append}
 use Rattle.std.proofs.lemmas.Bool.{and_from, eq-eqb, ne_eqb, le-leb, lt-ltb}
 use Rattle.arith.specs.declared.operator.Operator.{Operator}
 use Rattle.arith.specs.declared.operator.Operator.TheVariants as operator
@@ -16,10 +16,10 @@ use Rattle.tables.specs.declared.sort.Parts.{Parts}
 use Rattle.tables.specs.declared.sort.Parts.TheVariants.{Zero, One, Two, Three}
 use Rattle.tables.specs.Trees as tree
 use Rattle.tables.specs.Trees.{number, name, work, Connective, both, either, truth, compare, negate, connect, set, when, choose, while, only, joint}
-use Rattle.tables.specs.Rows.{blank, row, operator_kind, connective_kind, bit, sum_rows, condition_rows, command_rows, sheet_rows, sum_size, condition_size, command_size, sheet_size}
+use Rattle.tables.specs.Rows.{blank, row, operator_kind, connective_kind, bit, sheet_rows, sheet_size}
 use Rattle.tables.specs.Tables.{SumOver, ConditionOver, CommandOver, SheetOver, Table}
-use Rattle.tables.specs.Sorts.{sort_of, parts_of, serves_as}
-use Rattle.tables.specs.Checks.{allowed_value, below, and_then, start_by, part_start, first_start, sized, fits_at, fit_up_to, from_start, whole_sheet, is_table}
+use Rattle.tables.specs.Sorts.{parts_of}
+use Rattle.tables.specs.Checks.{allowed_value, and_then, start_by, part_start, first_start, sized, fits_at, fit_up_to, from_start, is_table}
 use Rattle.tables.proofs.OfSort.{Of, rows_in, size_in, length-in, top_in, some-rows}
 
 -- the rows stand in R from a on

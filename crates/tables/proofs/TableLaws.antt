@@ -1,9 +1,8 @@
 -- The check accepts exactly the tables over at most 64 points.
-use Rattle.std.proofs.Common.{◌≡◌, ℕ, ◌≤◌, Bool, true, false, cond, leb, List, is_ok, Ok, Err, Result, sym, refl, ap, ◌∙◌, subst}
+use Rattle.std.proofs.Common.{◌≡◌, ℕ, Bool, true, false, cond, leb, List, Ok, Err, refl}
 use Rattle.std.proofs.lemmas.Bool.{leb-true, le-leb, false≢true, both_ways}
-use Rattle.faults.specs.declared.fault.Fault.{Fault}
 use Rattle.tables.specs.declared.row.Row.{Row}
-use Rattle.tables.specs.Tables.{Table, Accepts, OneTree}
+use Rattle.tables.specs.Tables.{Accepts, OneTree}
 use Rattle.tables.specs.Checks.{is_table, table_checked, no_table_fault, too_many_points}
 use Rattle.tables.proofs.Standing.{accepts-table}
 use Rattle.tables.proofs.Growing.{only-tables}

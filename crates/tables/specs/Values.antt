@@ -1,6 +1,6 @@
 -- A tree's value in an algebra: a kind of value, and for each of the sixteen kinds of rows a function from the row and
 -- its parts' values. The six functions of sums stand in a record of their own, since a sum needs no others.
-use Rattle.std.specs.Prelude.{ℕ, ℤ, pos}
+use Rattle.std.specs.Prelude.{pos}
 use Rattle.arith.specs.declared.operator.Operator.{Operator}
 use Rattle.arith.specs.declared.operator.Operator.TheVariants as operator
 use Rattle.arith.specs.Comparisons.{comparison_number}

@@ -1,4 +1,6 @@
 // The table: what reader, screen and compiler share. Its meaning is a tree; its form is a list of rows.
+#![tactic(auto)]
+
 mod check;
 mod kind;
 mod row;

@@ -1,5 +1,5 @@
 -- Each part's measure is known, and a row's is made of them.
-use Rattle.std.proofs.Common.{◌≡◌, ℕ, ◌-◌, ◌<◌, length, sym, ap, ◌∙◌, subst, rules}
+use Rattle.std.proofs.Common.{◌≡◌, ℕ, ◌-◌, ◌<◌, sym, ap, ◌∙◌, subst, rules}
 use Rattle.compiler.specs.Parts.{Part, Stands}
 use Rattle.compiler.proofs.Parting.{last, zero_of, one_at, two_at, three-at, counted, measured-one, measured-two, measured-three, small}
 use Rattle.compiler.proofs.measuring.+measure.Goals as goal

@@ -1,9 +1,7 @@
-use Rattle.std.proofs.Common.{◌≡◌, ℕ, ◌<◌, ◌≤◌, List, [], ◌∷◌, length, get_or, drop, Some, Ok, Err, sym, refl, ap, ◌∙◌, arith, rules}
-use Rattle.tables.specs.Rows.{blank}
+use Rattle.std.proofs.Common.{◌≡◌, ℕ, ◌≤◌, List, [], ◌∷◌, length, get_or, drop, Some, Ok, Err, sym, refl, ap, ◌∙◌, arith, rules}
 use Rattle.tables.specs.Values.{sheet_value}
 use Rattle.tables.specs.Passes.{passes}
 use Rattle.folds.specs.Stacks.{top_first}
-use Rattle.folds.specs.Folds.{too_few_slots}
 use Rattle.folds.proofs.Tops.{top-none, length-top}
 use Rattle.folds.proofs.FoldLaws.{enough, onward, at-end, table-passes, refused, answered, folds, leaves}
 use Rattle.folds.proofs.folding.fold.Goals as goal

@@ -2,7 +2,7 @@ use Rattle.std.proofs.Common.{◌≡◌, ℕ, ◌-◌, ◌<◌, T, length, get_o
 use lib.Signed.{non_neg}
 use Rattle.tables.specs.Trees.{set, only}
 use Rattle.tables.specs.Rows.{blank}
-use Rattle.screen.specs.Works.{Points, done, stop}
+use Rattle.screen.specs.Works.{Points, done}
 use Rattle.screen.specs.Model.{Ends}
 use Rattle.screen.proofs.Costs.{spent-sum}
 use Rattle.screen.proofs.Commands.{setting, set-late, set-stopped-late, set_ended, set-stopped}

@@ -1,4 +1,4 @@
-use Rattle.std.proofs.Common.{◌≡◌, ◌+◌, ◌-◌, Bool, true, false, eqb, length, ℤ, sym, ap, ◌∙◌, subst, arith, w32, of_z, rules}
+use Rattle.std.proofs.Common.{◌≡◌, ◌+◌, Bool, true, false, eqb, length, ℤ, sym, ap, ◌∙◌, subst, arith, w32, of_z, rules}
 use mathlib.Core.Bool as bool
 use Rattle.std.proofs.lemmas.Result.{err_from_is_err_and}
 use Rattle.tables.specs.Trees.{Condition}

@@ -1,7 +1,7 @@
 -- A part stands where the code finds it, so each call's promise is about the tree's own part.
 use Rattle.std.proofs.Common.{◌≡◌, ℕ, ◌-◌, List, length, get_or, sym, ap, ◌∙◌, subst, arith, rules}
 use Rattle.tables.specs.declared.row.Row.{Row}
-use Rattle.tables.specs.Trees.{Condition, Sheet, when, choose, while, only, joint}
+use Rattle.tables.specs.Trees.{Condition, Sheet, while, only}
 use Rattle.tables.specs.Rows.{blank}
 use Rattle.screen.specs.declared.value.Run.{Run}
 use Rattle.screen.specs.declared.value.Run.TheVariants.{Ended, Stopped, Spent}

@@ -1,6 +1,6 @@
-use Rattle.std.proofs.Common.{◌≡◌, [], ◌∷◌, ap, ◌∙◌, arith}
+use Rattle.std.proofs.Common.{◌≡◌, [], ◌∷◌, ◌∙◌, arith}
 use Rattle.instructions.specs.Codes.{code_of}
-use Rattle.station_file.specs.Layout.{four_bytes, operand_of, put}
+use Rattle.station_file.specs.Layout.{four_bytes, operand_of}
 use Rattle.station_file.proofs.Puts.{put_byte, put-put}
 use Rattle.station_file.proofs.sections.put_instruction.Goals as goal
 

@@ -1,4 +1,4 @@
-use Rattle.std.proofs.Common.{◌≡◌, false, sym, refl, ◌∙◌, arith}
+use Rattle.std.proofs.Common.{false, sym, ◌∙◌, arith}
 use Rattle.tables.proofs.Fitting.{misfit, too_many, one_more, at-end}
 use Rattle.tables.proofs.TableLaws.{judged}
 use Rattle.tables.proofs.check.is_table.Goals as goal

@@ -1,4 +1,4 @@
-use Rattle.std.proofs.Common.{◌≡◌, codes, refl}
+use Rattle.std.proofs.Common.{◌≡◌, refl}
 use Rattle.faults.specs.declared.causes.BankCause.{BankCause}
 use Rattle.faults.specs.declared.causes.BankCause.TheVariants.{NoPoint}
 use Rattle.faults.specs.Words.{bank_words}

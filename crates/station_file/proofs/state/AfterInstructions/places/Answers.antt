@@ -1,4 +1,4 @@
-use Rattle.std.proofs.Common.{◌≡◌, ◌+◌, ◌-◌, ◌*◌, ◌<◌, ◌≤◌, length, sym, refl, ap, ◌∙◌, arith}
+use Rattle.std.proofs.Common.{◌+◌, ◌*◌, length, sym, ap, arith}
 use Rattle.station_file.specs.Layout.{places_section}
 use Rattle.station_file.specs.Writing.{wrong_places, finished}
 use Rattle.station_file.proofs.Judged.{as_many}

@@ -1,4 +1,4 @@
-use Rattle.std.proofs.Common.{◌≡◌, ◌+◌, ◌-◌, ◌*◌, ◌<◌, ◌≤◌, length, sym, refl, ap, ◌∙◌, arith}
+use Rattle.std.proofs.Common.{◌+◌, ◌*◌, length, sym, refl, ap, arith}
 use Rattle.station_file.specs.Layout.{code_section}
 use Rattle.station_file.specs.Writing.{wrong_code, after_code}
 use Rattle.station_file.proofs.Sectioned.{length-code, no_room, is-wrong, is-written, code_put}
