@@ -1,6 +1,6 @@
 -- What the grammar derives, the machine reads, and as its tree. It is shown of the machine without its limit, so that no
 -- sheet has two trees, however deep it nests.
-use Rattle.std.proofs.Common.{◌≡◌, ℕ, zero, suc, Bool, true, false, cond, List, [], ◌∷◌, ◌++◌, sym, refl, ap, ◌∙◌, subst, append_assoc}
+use Rattle.std.proofs.Common.{◌≡◌, ℕ, suc, Bool, true, false, cond, List, [], ◌∷◌, ◌++◌, sym, refl, ap, ◌∙◌, subst, append_assoc}
 use Rattle.arith.specs.declared.comparison.Comparison.{Comparison}
 use Rattle.tables.specs.Trees.{Sum, Condition, Command, Sheet, compare, both, either, set, when, choose, while}
 use Rattle.grammar.specs.declared.lexeme.Lexeme.{Lexeme}
@@ -10,7 +10,7 @@ use Rattle.grammar.specs.declared.choice.Mark.TheVariants.{Else, Open, Close, Op
 use Rattle.grammar.specs.Choices.{mark_of}
 use Rattle.grammar.specs.Lexemes.{Tok, tok}
 use Rattle.grammar.specs.Grammar.{SumOf, ProdOf, FactorOf, ConditionOf, ConjunctOf, LiteralOf, CommandOf, BlockOf, SheetOf}
-use Rattle.grammar.specs.Machine.{Left, none, left, onto, Pending, pending, joined, negated, gathered, sheet_of, Block, whole, if_body, else_body, while_body, Purpose, if_head, while_head, bracket, Use, to_set, left_of, right_of, within, State, want, have, lit, had, cmd, becomes, opening, blocking, else_or, done, refused, if_else, clue_in, behind, shut, left-block, step, start}
+use Rattle.grammar.specs.Machine.{Left, none, left, onto, Pending, pending, joined, negated, gathered, sheet_of, Block, whole, if_body, else_body, while_body, Purpose, if_head, while_head, bracket, Use, to_set, left_of, right_of, within, State, want, have, lit, cmd, blocking, else_or, done, if_else, clue_in, behind, shut, left-block, step, start}
 use Rattle.grammar.specs.Theorem.{Derives, Reads-all, One-tree}
 use Rattle.grammar.proofs.Free.{free, within-limit}
 

@@ -1,8 +1,8 @@
 -- Small sheets read by the definitions themselves, from their bytes to the tree or the refusal.
-use Rattle.std.proofs.Common.{◌≡◌, ℕ, true, false, List, [], ◌∷◌, ◌++◌, replicate, pos, codes, refl}
+use Rattle.std.proofs.Common.{◌≡◌, ℕ, true, List, [], ◌∷◌, ◌++◌, replicate, pos, codes, refl}
 use Rattle.faults.specs.declared.causes.ReaderCause.TheVariants.{NoToken, NumberTooLarge, UnlistedName, Unexpected, TooManyOpen}
-use Rattle.arith.specs.declared.operator.Operator.TheVariants.{Add, Sub, Mul, Div}
-use Rattle.arith.specs.declared.comparison.Comparison.TheVariants.{Greater, Equal, LessOrEqual}
+use Rattle.arith.specs.declared.operator.Operator.TheVariants.{Sub, Div}
+use Rattle.arith.specs.declared.comparison.Comparison.TheVariants.{Greater, LessOrEqual}
 use Rattle.scanner.specs.Tokens.{tokens_at}
 use Rattle.tables.specs.Trees.{number, name, work, both, either, truth, compare, negate, connect, set, when, choose, while, only, joint}
 use Rattle.grammar.specs.Lexemes.{lexemes}

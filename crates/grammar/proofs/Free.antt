@@ -1,5 +1,5 @@
 -- The machine without its limit: where no bracket is counted, there is always room. Within the limit it is the machine.
-use Rattle.std.proofs.Common.{◌≡◌, ℕ, suc, pred, ◌<◌, ◌≤◌, Bool, true, false, cond, ltb, ◌⊎◌, List, [], ◌∷◌, ◌++◌, sym, refl, ap, ◌∙◌, subst, inl, inr, arith}
+use Rattle.std.proofs.Common.{◌≡◌, ℕ, ◌<◌, ◌≤◌, ltb, List, [], ◌∷◌, refl, ap, ◌∙◌, arith}
 use Rattle.std.proofs.lemmas.Bool.{cond-true, lt-ltb}
 use Rattle.grammar.specs.declared.lexeme.Lexeme.{Lexeme}
 use Rattle.grammar.specs.declared.lexeme.Lexeme.TheVariants as lexeme

@@ -1,10 +1,9 @@
 -- Reading a number from its digits, one digit at a time.
-use Rattle.std.proofs.Common.{◌≡◌, ℕ, suc, ◌+◌, ◌-◌, ◌*◌, ◌<◌, ◌≤◌, true, false, cond, leb, List, [], ◌∷◌, length, get_or, drop, pos, sym, refl, ap, ◌∙◌, subst, arith, w32, to_z}
+use Rattle.std.proofs.Common.{◌≡◌, ℕ, ◌+◌, ◌-◌, ◌*◌, ◌<◌, ◌≤◌, true, false, leb, List, [], ◌∷◌, length, get_or, drop, sym, ap, ◌∙◌, arith, w32, to_z}
 use Rattle.std.proofs.lemmas.List.{at_drop_more, at_drop_all}
 use Rattle.std.proofs.lemmas.Int.{to_z_pos}
 use Rattle.std.proofs.lemmas.Bool.{cond-true, cond-false}
 use Rattle.grammar.specs.Lexemes.{numeral_from, numeral, number_lexeme}
-use Rattle.grammar.specs.declared.lexeme.Lexeme.{Lexeme}
 use Rattle.grammar.specs.declared.lexeme.Lexeme.TheVariants.{Number, TooLarge}
 
 -- a number only grows with its digits

@@ -1,6 +1,6 @@
 -- What the machine reads, the grammar derives, and with at most 32 brackets open: every step that is not refused keeps
 -- what `Stands` says.
-use Rattle.std.proofs.Common.{◌≡◌, ℕ, suc, pred, ◌<◌, ◌≤◌, Bool, true, false, cond, ltb, List, [], ◌∷◌, ◌++◌, Some, None, Option, sym, refl, ap, ◌∙◌, subst, append_assoc, append-nil, arith}
+use Rattle.std.proofs.Common.{◌≡◌, ℕ, ◌<◌, ◌≤◌, Bool, true, false, cond, ltb, List, [], ◌∷◌, ◌++◌, Some, None, Option, sym, refl, ap, ◌∙◌, subst, append_assoc, append-nil, arith}
 use native.Mathlib.Nat.{pred-le}
 use Rattle.std.proofs.lemmas.Bool.{cond_both, ltb-true}
 use Rattle.faults.specs.declared.causes.ReaderCause.{ReaderCause}
@@ -23,10 +23,10 @@ use Rattle.grammar.specs.declared.choice.Mark.{Mark}
 use Rattle.grammar.specs.declared.choice.Mark.TheVariants as mark
 use Rattle.grammar.specs.Choices.{operand_of, join_of, comparison_of, literal_of, link_of, command_of, mark_of, depth_after}
 use Rattle.grammar.specs.Lexemes.{Tok, tok}
-use Rattle.grammar.specs.Grammar.{SumOf, ProdOf, FactorOf, ConditionOf, ConjunctOf, LiteralOf, CommandOf, BlockOf, SheetOf}
-use Rattle.grammar.specs.Machine.{Left, none, left, onto, Pending, pending, joined, negated, gathered, sheet_of, Block, whole, if_body, else_body, while_body, Purpose, if_head, while_head, bracket, Use, to_set, left_of, right_of, within, State, want, have, lit, had, cmd, becomes, opening, blocking, else_or, done, refused, if_else, if_open, if_close, if_open_block, if_semicolon, if_becomes, room, clue_in, wanted, shut, linked, behind, compared, ended, continued, begun, left-block, closed, finished, commanded, step, run, start}
+use Rattle.grammar.specs.Grammar.{SumOf, FactorOf, ConditionOf, ConjunctOf, LiteralOf, CommandOf, BlockOf, SheetOf}
+use Rattle.grammar.specs.Machine.{Left, none, onto, Pending, sheet_of, Block, else_body, Purpose, bracket, Use, to_set, left_of, right_of, within, State, want, have, lit, had, cmd, becomes, opening, blocking, else_or, done, refused, if_else, if_open, if_close, if_open_block, if_semicolon, if_becomes, room, clue_in, wanted, shut, linked, compared, ended, continued, begun, left-block, closed, finished, commanded, step, run, start}
 use Rattle.grammar.specs.Limits.{FewOpen}
-use Rattle.grammar.specs.Theorem.{Begins, Reads-only}
+use Rattle.grammar.specs.Theorem.{Reads-only}
 use Rattle.grammar.proofs.Lexing.{run-refused, run-done}
 use Rattle.grammar.proofs.Backwards.{Operands, operand-of, Joins, join-of, Compares, comparison-of, Starts, literal-of, Links, link-of, Commands as Commanding, command-of, Marks, mark-of}
 use Rattle.grammar.proofs.Stands.{LeftSum, LeftProd, whole_sum, whole-prod, Nots, Ands, Ors, whole-literal, whole-conjunct, whole-condition, Commands, whole-sheet, InBlock, Heads, Opening, For, Using, Wanting, Having, Literal, Had, Among, IfRead, Opened, Headed, Stands, After}

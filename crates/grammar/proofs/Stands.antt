@@ -1,6 +1,6 @@
 -- What has been read when the machine is in a state: the tokens so far are, by the grammar, the finished parts that the
 -- state holds, each behind the tokens of what was begun before it.
-use Rattle.std.proofs.Common.{◌≡◌, ℕ, List, [], ◌∷◌, ◌++◌, sym, refl, ap, ◌∙◌, subst, append_assoc, append-nil}
+use Rattle.std.proofs.Common.{◌≡◌, ℕ, List, [], ◌∷◌, ◌++◌, append_assoc}
 use Rattle.arith.specs.declared.operator.Operator.{Operator}
 use Rattle.arith.specs.declared.comparison.Comparison.{Comparison}
 use Rattle.tables.specs.Trees.{Sum, Condition, Command, Sheet, both, either}

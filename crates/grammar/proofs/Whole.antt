@@ -1,6 +1,6 @@
 -- The lexemes of a text end with the end, or with a byte that begins no token, and neither stands before. So a text is read
 -- exactly if its own tokens are a sheet's.
-use Rattle.std.proofs.Common.{◌≡◌, ℕ, zero, suc, ◌≤◌, Bool, true, false, cond, leb, List, [], ◌∷◌, ◌++◌, Some, None, codes, Option, sym, refl, ap, ◌∙◌, subst, arith}
+use Rattle.std.proofs.Common.{◌≡◌, ℕ, zero, suc, Bool, true, false, leb, List, [], ◌∷◌, ◌++◌, Some, None, codes, Option, sym, ap, ◌∙◌, subst, arith}
 use Rattle.std.specs.Str.{bytes_eq}
 use Rattle.std.proofs.lemmas.Bool.{cond_both}
 use Rattle.scanner.specs.Tokens.{is_blank, front, token, after, tell, tokens_from, tokens_at, spelled}
@@ -13,9 +13,9 @@ use Rattle.names.specs.Lines.{position}
 use Rattle.grammar.specs.declared.lexeme.Lexeme.{Lexeme}
 use Rattle.grammar.specs.declared.lexeme.Lexeme.TheVariants as lexeme
 use Rattle.grammar.specs.Choices.{depth_after}
-use Rattle.grammar.specs.Lexemes.{Tok, tok, numeral, number_lexeme, listed, word_lexeme, sign_lexeme, kind_lexeme, lexeme_of, lexed, lexemes}
+use Rattle.grammar.specs.Lexemes.{Tok, tok, numeral, listed, word_lexeme, sign_lexeme, lexed, lexemes}
 use Rattle.grammar.specs.Limits.{FewOpen}
-use Rattle.grammar.specs.Theorem.{Derives, Begins, ReadsAs, Reads-just}
+use Rattle.grammar.specs.Theorem.{Reads-just}
 use Rattle.grammar.proofs.Complete.{reads_all}
 use Rattle.grammar.proofs.Sound.{reads_only}
 

@@ -1,7 +1,7 @@
 -- What a lexeme is to each place in a sheet at which it can stand. These are tables, a line for each lexeme; what is not
 -- taken at a place is refused there, as a byte that begins no token, a number too large, a name that is not
 -- listed, or else as unexpected.
-use Rattle.std.specs.Prelude.{ℕ, suc, pred, Bool, true, false, Some, None, Option}
+use Rattle.std.specs.Prelude.{ℕ, suc, pred, Some, None, Option}
 use Rattle.faults.specs.declared.causes.ReaderCause.{ReaderCause}
 use Rattle.faults.specs.declared.causes.ReaderCause.TheVariants.{NoToken, NumberTooLarge, UnlistedName, Unexpected}
 use Rattle.arith.specs.declared.comparison.Comparison.{Comparison}

@@ -1,6 +1,6 @@
 -- How deep a sheet may nest: at most 32 `(` and `{` are open together. It is judged beside the grammar, over the tokens
 -- alone.
-use Rattle.std.specs.Prelude.{◌≡◌, ℕ, suc, pred, ◌≤◌, Bool, true, false, List, [], ◌∷◌}
+use Rattle.std.specs.Prelude.{ℕ, ◌≤◌, List, [], ◌∷◌}
 use Rattle.grammar.specs.Lexemes.{Tok}
 use Rattle.grammar.specs.Choices.{depth_after}
 

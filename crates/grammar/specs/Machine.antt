@@ -4,7 +4,7 @@
 --
 -- A reader need not believe it: that it reads just the sheets that the grammar derives within the limits, and as
 -- their trees, is a law on the contract of reading. What it adds is which refusal is given, and where.
-use Rattle.std.specs.Prelude.{ℕ, zero, suc, Bool, true, false, cond, List, [], ◌∷◌, Some, None, Option, nat_lt}
+use Rattle.std.specs.Prelude.{ℕ, Bool, false, cond, List, [], ◌∷◌, Some, None, Option, nat_lt}
 use Rattle.faults.specs.declared.causes.ReaderCause.{ReaderCause}
 use Rattle.faults.specs.declared.causes.ReaderCause.TheVariants.{Unexpected, TooManyOpen}
 use Rattle.arith.specs.declared.operator.Operator.{Operator}

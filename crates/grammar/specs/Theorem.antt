@@ -6,7 +6,7 @@ use Rattle.grammar.specs.declared.lexeme.Lexeme.TheVariants as lexeme
 use Rattle.grammar.specs.Lexemes.{Tok, tok, lexemes}
 use Rattle.grammar.specs.Grammar.{SheetOf}
 use Rattle.grammar.specs.Limits.{FewOpen}
-use Rattle.grammar.specs.Machine.{State, done, run, start}
+use Rattle.grammar.specs.Machine.{done, run, start}
 
 -- the tokens are a sheet's, and then the end
 pub record Derives (ts : List Tok) (t : Sheet) : Type 0 where

@@ -1,4 +1,6 @@
 // The grammar of sheets: what the tokens of a sheet are to it, and what each may be where it stands.
+#![tactic(auto)]
+
 mod choice;
 mod lex;
 mod lexeme;

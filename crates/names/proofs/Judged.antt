@@ -3,7 +3,6 @@
 use Rattle.std.proofs.Common.{◌≡◌, ℕ, suc, ◌+◌, ◌-◌, ◌<◌, ◌≤◌, eqb, List, [], ◌∷◌, ◌++◌, length, get_or, take, drop, Some, None, Option, sym, refl, ap, ◌∙◌, arith}
 use Rattle.std.proofs.lemmas.List.{append-nil, at_drop_all, nil_from_length, take_more, length_push}
 use Rattle.std.proofs.lemmas.Bool.{ne_eqb, cond-false}
-use Rattle.names.specs.declared.bad_line.BadLine.{BadLine}
 use Rattle.names.specs.declared.bad_line.Complaint.{Complaint}
 use Rattle.names.specs.declared.bad_line.Complaint.TheVariants.{NoNewline}
 use Rattle.names.specs.Lines.{lines_from, lines_of, rest_from, rest_of}

@@ -1,17 +1,16 @@
 -- Why the lists that are accepted are the lists of names: a line has no complaint exactly if the names with it are
 -- fine, and so on to the last line.
-use Rattle.std.proofs.Common.{◌≡◌, ℕ, zero, suc, ◌+◌, ◌-◌, ◌<◌, ◌≤◌, Bool, true, false, cond, ◌&&◌, ◌||◌, eqb, ltb, leb, ◌⊎◌, List, [], ◌∷◌, ◌++◌, length, get_or, is_some, IfSome, Some, None, Option, sym, refl, ap, ◌∙◌, subst, inl, inr, arith, MatchOption}
+use Rattle.std.proofs.Common.{◌≡◌, ℕ, zero, suc, ◌+◌, ◌-◌, ◌<◌, ◌≤◌, Bool, true, false, cond, ltb, leb, List, [], ◌∷◌, ◌++◌, length, get_or, IfSome, Some, None, Option, sym, refl, ap, ◌∙◌, subst, inl, inr, arith, MatchOption}
 use Rattle.std.proofs.ByRecursion.{All-push, All-weaker}
 use Rattle.std.proofs.lemmas.Slice.Eq.{bytes_eq-Decides}
 use Rattle.std.proofs.lemmas.List.{append-nil, append_assoc, length-append, length_push, get_or_append_left, get_or_push}
-use Rattle.std.proofs.lemmas.Bool.{leb-false, leb-true, le-leb, lt-leb, ltb-false, le-ltb, cases_Bool, cases_lt, cond-true, cond-false, true≢false, false≢true, both_ways, and_parts}
-use Rattle.std.specs.Char.{is_ascii_alphabetic, is_ascii_alphanumeric}
+use Rattle.std.proofs.lemmas.Bool.{leb-false, lt-leb, ltb-false, le-ltb, cases_lt, false≢true, both_ways, and_parts}
 use Rattle.std.specs.List.{AllByRecursion as All}
 use Rattle.std.specs.Str.{bytes_eq}
 use Rattle.scanner.specs.Words.{is_word, all_go_on, goes_on, begins_word}
 use Rattle.names.specs.declared.bad_line.BadLine.{BadLine}
 use Rattle.names.specs.declared.bad_line.Complaint.{Complaint}
-use Rattle.names.specs.declared.bad_line.Complaint.TheVariants.{TooMany, TooLong, Reserved, Repeated}
+use Rattle.names.specs.declared.bad_line.Complaint.TheVariants.{TooMany, TooLong, Reserved}
 use Rattle.names.specs.Lines.{lines_of, rest_of, position, position_from}
 use Rattle.names.specs.Names.{Name, Fine, Lists, Accepts, Breaks, FirstBad, Finds, is_reserved, written}
 use Rattle.names.specs.Complaints.{complaint_of, repeated, shape_complaint, first_bad, bad_or, bad_line_of, or_fault, list_read}

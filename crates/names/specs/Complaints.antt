@@ -1,6 +1,6 @@
 -- What reading a name list answers: the first line that breaks a rule, with its start, its number and the rule it
 -- breaks, or none. The laws of `Names` say that these are the right lists and the right lines.
-use Rattle.std.specs.Prelude.{ℕ, suc, ◌+◌, Bool, cond, List, [], ◌∷◌, ◌++◌, length, Some, None, Ok, Err, codes, decimal, Option, Result, nat_le, nat_lt}
+use Rattle.std.specs.Prelude.{ℕ, suc, ◌+◌, cond, List, [], ◌∷◌, ◌++◌, length, Some, None, Ok, Err, codes, decimal, Option, Result, nat_le, nat_lt}
 use Rattle.std.specs.Char.{is_ascii_digit}
 use Rattle.faults.specs.declared.causes.Layer.TheVariants.{Reader}
 use Rattle.faults.specs.declared.causes.ReaderCause.TheVariants.{BadList}

@@ -1,6 +1,6 @@
 -- The lines of a text: what stands before each byte 10, in order. What follows the last byte 10 is no line; it is
 -- the rest.
-use Rattle.std.specs.Prelude.{ℕ, suc, Bool, cond, List, [], ◌∷◌, ◌++◌, Some, None, Option, ◌==◌}
+use Rattle.std.specs.Prelude.{ℕ, suc, cond, List, [], ◌∷◌, ◌++◌, Some, None, Option, ◌==◌}
 use Rattle.std.specs.Str.{bytes_eq}
 
 -- the lines still to come, where the line begun so far is given

@@ -1,4 +1,6 @@
 // From text that people write to what the other layers take. So far: the name list.
+#![tactic(auto)]
+
 mod bad_line;
 mod judge;
 mod lines;

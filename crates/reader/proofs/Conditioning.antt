@@ -19,7 +19,7 @@ use Rattle.grammar.specs.declared.choice.Mark.TheVariants as mark
 use Rattle.grammar.specs.declared.choice.Link.TheVariants as link
 use Rattle.grammar.specs.Choices.{comparison_of, literal_of, link_of, depth_after}
 use Rattle.grammar.specs.Lexemes.{Tok, tok}
-use Rattle.grammar.specs.Machine.{none, Pending, pending, joined, negated, Purpose, bracket, Use, left_of, right_of, want, lit, had, opening, refused, refuse, within, room, wanted, begun, linked, compared, shut, clue_in, run}
+use Rattle.grammar.specs.Machine.{none, Pending, pending, joined, negated, Purpose, bracket, Use, left_of, right_of, want, lit, had, opening, refused, refuse, within, room, begun, linked, compared, shut, clue_in, run}
 use Rattle.grammar.proofs.Lexing.{same-clue, next-lexeme, run-refused}
 use Rattle.reader.specs.declared.seen.Seen.{Seen}
 use Rattle.reader.specs.declared.seen.Refusal.{Refusal}

@@ -1,5 +1,5 @@
 -- A bracket, which is entered where there is room for one more, and by the machine too.
-use Rattle.std.proofs.Common.{◌≡◌, ℕ, suc, ◌+◌, ◌<◌, ◌≤◌, Bool, true, false, cond, ltb, Ok, Err, Result, sym, refl, ap, ◌∙◌, subst, arith, ltb-true}
+use Rattle.std.proofs.Common.{◌≡◌, ℕ, suc, ◌<◌, Bool, true, false, cond, ltb, Ok, Err, Result, sym, refl, ap, subst, arith, ltb-true}
 use Rattle.faults.specs.declared.causes.ReaderCause.TheVariants.{TooManyOpen}
 use Rattle.grammar.specs.Machine.{State, refused, room}
 use Rattle.reader.specs.declared.seen.Seen.{Seen}

@@ -1,6 +1,6 @@
 -- The next token, once it was seen, and what was seen, once it was taken: each of the tables by which reading goes on
 -- tells the lexeme that it takes.
-use Rattle.std.proofs.Common.{◌≡◌, ℕ, suc, ◌<◌, ◌≤◌, Bool, true, false, List, [], ◌∷◌, length, ℤ, Some, None, Option, sym, refl, ap, ◌∙◌, subst}
+use Rattle.std.proofs.Common.{◌≡◌, ℕ, ◌<◌, Bool, List, ◌∷◌, ℤ, Some, None, Option, sym, refl, ap, ◌∙◌, subst}
 use Rattle.faults.specs.declared.causes.ReaderCause.{ReaderCause}
 use Rattle.arith.specs.declared.operator.Operator.{Operator}
 use Rattle.arith.specs.declared.comparison.Comparison.{Comparison}
@@ -23,9 +23,7 @@ use Rattle.grammar.specs.Lexemes.{Tok, tok}
 use Rattle.grammar.specs.Machine.{State, refused, step, run}
 use Rattle.grammar.proofs.Lexing.{run-refused}
 use Rattle.reader.specs.declared.seen.Seen.{Seen}
-use Rattle.reader.specs.declared.progress.Progress.{Progress}
 use Rattle.reader.specs.Ahead.{ahead, follow, HereIs}
-use Rattle.reader.specs.Progressing.{from}
 
 -- a lexeme by what it is taken for, or as it was
 

@@ -1,5 +1,5 @@
 -- Reading keeps its law.
-use Rattle.std.proofs.Common.{◌≡◌, ℕ, ◌≤◌, Bool, true, false, cond, ◌&&◌, leb, List, [], ◌∷◌, length, is_ok, Some, None, Ok, Err, Option, Result, sym, refl, ap, ◌∙◌, subst, arith}
+use Rattle.std.proofs.Common.{◌≡◌, ℕ, ◌≤◌, Bool, true, false, cond, ◌&&◌, leb, List, length, is_ok, Some, None, Ok, Err, Option, sym, refl, ap, ◌∙◌, subst, arith}
 use Rattle.std.proofs.lemmas.Bool.{leb-false, leb-true, le-leb, false≢true, and_parts, and_from}
 use Rattle.faults.specs.declared.causes.ReaderCause.TheVariants.{SheetTooLong}
 use Rattle.faults.specs.declared.fault.Fault.{Fault}
@@ -14,7 +14,7 @@ use Rattle.grammar.specs.Lexemes.{lexemes}
 use Rattle.grammar.specs.Machine.{State, want, have, lit, had, cmd, becomes, opening, blocking, else_or, done, refused, run, start}
 use Rattle.grammar.proofs.Complete.{one-tree}
 use Rattle.grammar.proofs.Whole.{reads-just}
-use Rattle.reader.specs.Reading.{Told, filled, blanks, reader_fault, too_few_slots, slotted, told_by, sheet_told, list_told, reading}
+use Rattle.reader.specs.Reading.{Told, filled, blanks, reader_fault, too_few_slots, told_by, list_told, reading}
 use Rattle.reader.specs.Laws.{Within, ReadsExactly}
 
 abbrev IsDone : State → Type 0

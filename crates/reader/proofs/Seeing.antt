@@ -1,5 +1,5 @@
 -- What is seen at a place: its lexeme is the next one, and the lexemes behind it are those from its end on.
-use Rattle.std.proofs.Common.{◌≡◌, ℕ, ◌<◌, ◌≤◌, leb, List, [], ◌∷◌, length, Some, None, codes, Option, sym, refl, ap, ◌∙◌, subst, arith}
+use Rattle.std.proofs.Common.{◌≡◌, ℕ, ◌<◌, leb, List, ◌∷◌, length, Some, None, codes, Option, sym, refl, ap, ◌∙◌, subst, arith}
 use Rattle.std.specs.Str.{bytes_eq}
 use Rattle.std.proofs.lemmas.Bool.{cond_both}
 use Rattle.scanner.specs.Tokens.{tokens_at, token_at, after, spelled, Placed}

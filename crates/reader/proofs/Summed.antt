@@ -1,5 +1,5 @@
 -- One turn of each of the functions that read sums.
-use Rattle.std.proofs.Common.{◌≡◌, ℕ, suc, pred, ◌+◌, ◌-◌, ◌<◌, ◌≤◌, List, [], ◌∷◌, length, ℤ, pos, sym, refl, ap, ◌∙◌, subst, arith}
+use Rattle.std.proofs.Common.{◌≡◌, ℕ, suc, pred, ◌+◌, ◌-◌, ◌<◌, ◌≤◌, List, length, ℤ, pos, sym, refl, ap, ◌∙◌, subst, arith}
 use Rattle.faults.specs.declared.causes.ReaderCause.{ReaderCause}
 use Rattle.faults.specs.declared.causes.ReaderCause.TheVariants.{TooManyOpen}
 use Rattle.arith.specs.declared.operator.Operator.{Operator}
@@ -7,16 +7,16 @@ use Rattle.tables.specs.declared.kind.Kind.{Kind}
 use Rattle.tables.specs.declared.kind.Kind.TheVariants as kind
 use Rattle.tables.specs.declared.row.Row.{Row}
 use Rattle.tables.specs.Trees.{Sum, number, name, work}
-use Rattle.tables.specs.Rows.{row, operator_kind, sum_size, sum_rows}
+use Rattle.tables.specs.Rows.{operator_kind, sum_size, sum_rows}
 use Rattle.grammar.specs.declared.lexeme.Lexeme.{Lexeme}
 use Rattle.grammar.specs.declared.lexeme.Lexeme.TheVariants as lexeme
 use Rattle.grammar.specs.declared.choice.Operand.TheVariants as operand
 use Rattle.grammar.specs.declared.choice.Join.{Join}
 use Rattle.grammar.specs.declared.choice.Join.TheVariants as join
 use Rattle.grammar.specs.declared.choice.Mark.TheVariants as mark
-use Rattle.grammar.specs.Choices.{operand_of, join_of, mark_of, depth_after}
+use Rattle.grammar.specs.Choices.{operand_of, join_of, depth_after}
 use Rattle.grammar.specs.Lexemes.{Tok, tok}
-use Rattle.grammar.specs.Machine.{Left, none, left, onto, Use, within, State, want, have, refused, wanted, continued, ended, refuse, step, run}
+use Rattle.grammar.specs.Machine.{Left, none, left, onto, Use, within, want, have, refused, wanted, continued, ended, refuse, run}
 use Rattle.grammar.proofs.Lexing.{run-refused}
 use Rattle.reader.specs.declared.seen.Seen.{Seen}
 use Rattle.reader.specs.declared.seen.Refusal.{Refusal}
@@ -24,7 +24,7 @@ use Rattle.reader.specs.declared.progress.Progress.{Progress}
 use Rattle.reader.specs.Ahead.{ahead, follow, HereIs}
 use Rattle.reader.specs.Progressing.{told, told_leaf, read_on, Passed, Missed, Wrote, from}
 use Rattle.reader.specs.Summing.{behind_sum, NoFactor, NoProd, SumSoFar, TookSum, TookProd, TookFactor}
-use Rattle.reader.proofs.Entering.{inside, Entered, Barred}
+use Rattle.reader.proofs.Entering.{Entered, Barred}
 use Rattle.reader.proofs.Nexts.{number-taken, name-taken, bracket-taken, additive-taken, multiplicative-taken, close-taken, further, taking, refusing}
 use Rattle.reader.proofs.Writing.{sum-long, before, within-told, leaf-told, two-told}
 

@@ -1,6 +1,6 @@
 -- What reading a sheet answers and leaves in the rows: the list is tried first, then the sheet's length, then the sheet
 -- itself up to its earliest refusal, and the slots last. Refused rows are blank, but for a refused list.
-use Rattle.std.specs.Prelude.{ℕ, ◌-◌, cond, ◌&&◌, List, [], ◌∷◌, ◌++◌, length, replicate, Ok, Err, Result, nat_le}
+use Rattle.std.specs.Prelude.{ℕ, ◌-◌, cond, ◌&&◌, List, ◌++◌, length, replicate, Ok, Err, Result, nat_le}
 use Rattle.faults.specs.declared.causes.Layer.TheVariants as layer
 use Rattle.faults.specs.declared.causes.ReaderCause.{ReaderCause}
 use Rattle.faults.specs.declared.causes.ReaderCause.TheVariants.{SheetTooLong, Unexpected}

@@ -8,7 +8,7 @@ use Rattle.grammar.specs.declared.choice.Join.{Join}
 use Rattle.grammar.specs.declared.choice.Join.TheVariants as join
 use Rattle.grammar.specs.Choices.{join_of, depth_after}
 use Rattle.grammar.specs.Lexemes.{Tok}
-use Rattle.grammar.specs.Machine.{Left, none, left, onto, Use, State, want, have, refused, ended, run}
+use Rattle.grammar.specs.Machine.{Left, none, onto, Use, State, want, have, refused, ended, run}
 use Rattle.reader.specs.declared.seen.Refusal.{Refusal}
 use Rattle.reader.specs.declared.progress.Progress.{Progress}
 use Rattle.reader.specs.Ahead.{ahead}

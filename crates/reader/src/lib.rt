@@ -1,4 +1,6 @@
 // From the bytes of a name list and a sheet to the rows of its table.
+#![tactic(auto)]
+
 mod commands;
 mod conditions;
 mod progress;

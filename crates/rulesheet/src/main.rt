@@ -1,4 +1,6 @@
 // The program that people run. It does the one task that its words name, and says plainly what was refused.
+#![tactic(auto)]
+
 mod check;
 mod code;
 mod filing;

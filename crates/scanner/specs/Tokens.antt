@@ -2,7 +2,7 @@
 -- the token that was told last, or is blank, or begins a token, or begins none. What it tells of a byte that begins
 -- a token is one table of signs, the longer sign first, and two runs: digits for a number, letters, digits and
 -- underscores for a word. So a reader has to believe that table and those runs, and no search.
-use Rattle.std.specs.Prelude.{◌≡◌, ℕ, zero, suc, ◌+◌, ◌-◌, ◌<◌, ◌≤◌, Bool, true, false, cond, ◌&&◌, ◌||◌, List, [], ◌∷◌, length, take, drop, Some, None, Option, ◌==◌, ◌≢◌}
+use Rattle.std.specs.Prelude.{ℕ, zero, suc, ◌+◌, ◌-◌, ◌<◌, ◌≤◌, Bool, true, false, cond, ◌&&◌, ◌||◌, List, [], ◌∷◌, length, take, drop, Some, None, Option, ◌==◌, ◌≢◌}
 use Rattle.std.specs.Char.{is_ascii_digit}
 use Rattle.scanner.specs.Words.{begins_word, goes_on}
 use Rattle.scanner.specs.declared.token.ComparisonSign.TheVariants.{Less, LessOrEqual, Greater, GreaterOrEqual, Equal, NotEqual}

@@ -1,4 +1,6 @@
 // From bytes to the pieces that names and sheets are made of: words, and the tokens of a sheet.
+#![tactic(auto)]
+
 mod cursor;
 mod look;
 mod position;

@@ -9,7 +9,7 @@ use Rattle.names.specs.Complaints.{bad_or, first_bad, bad_line_of, or_fault}
 use Rattle.names.specs.Names.{Accepts, FirstBad}
 use Rattle.names.proofs.NameLaws.{accepts-law, first-bad-law}
 use Rattle.names.proofs.LineSteps.{part}
-use Rattle.names.proofs.Judged.{begins, asked, here, next-line, next-byte, ends-short, ends-whole}
+use Rattle.names.proofs.Judged.{asked, here, next-line, next-byte, ends-short, ends-whole}
 use Rattle.names.proofs.judge.first_bad_line.Goals as goal
 use Rattle.names.proofs.judge.first_bad_line.Goals.{then-b-eq-NEWLINE+in-None, else-b-eq-NEWLINE}
 

@@ -1,6 +1,6 @@
-use Rattle.std.proofs.Common.{◌≡◌, ℕ, suc, ◌+◌, ◌<◌, ◌≤◌, Bool, true, false, cond, eqb, List, [], ◌∷◌, ◌++◌, length, get_or, drop, sym, refl, ap, ◌∙◌, arith}
+use Rattle.std.proofs.Common.{◌≡◌, ℕ, ◌+◌, Bool, true, false, cond, eqb, List, [], ◌∷◌, ◌++◌, length, get_or, drop, refl, arith}
 use Rattle.std.proofs.lemmas.List.{at_drop_all}
-use Rattle.names.specs.Lines.{lines_from, lines_of}
+use Rattle.names.specs.Lines.{lines_from}
 use Rattle.names.proofs.LineSteps.{at-newline, at_byte}
 use Rattle.names.proofs.lines.line_count.Goals as goal
 use Rattle.names.proofs.lines.line_count.Goals.{then-b-eq-NEWLINE, else-b-eq-NEWLINE}

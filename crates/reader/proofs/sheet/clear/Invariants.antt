@@ -1,4 +1,4 @@
-use Rattle.std.proofs.Common.{◌≡◌, ◌++◌, replicate}
+use Rattle.std.proofs.Common.{◌≡◌, replicate}
 use lib.Seq.{paste}
 use Rattle.tables.specs.Rows.{blank}
 use Rattle.reader.proofs.sheet.clear.Given as goal

@@ -1,6 +1,5 @@
-use Rattle.std.proofs.Common.{◌≡◌, [], sym, refl, ap, ◌∙◌, subst, arith}
+use Rattle.std.proofs.Common.{[], sym, ap, ◌∙◌, arith}
 use Rattle.std.proofs.lemmas.Result.{err_from_is_err_and}
-use Rattle.tables.specs.Rows.{sheet_size}
 use Rattle.grammar.specs.Machine.{whole, refused, run, start}
 use Rattle.reader.specs.declared.seen.Refusal.{Refusal}
 use Rattle.reader.proofs.Writing.{sheet-long}

@@ -3,8 +3,6 @@ use Rattle.std.proofs.Common.{◌≡◌, ◌+◌, ◌-◌, ◌*◌, ◌≤◌, L
 use Rattle.names.specs.Lines.{lines_of}
 use Rattle.tables.specs.declared.row.Row.{Row}
 use Rattle.reader.specs.declared.progress.Progress.{Progress}
-use Rattle.reader.specs.Ahead.{ahead}
-use Rattle.reader.specs.Standing.{Stands}
 use Rattle.reader.specs.Summing.{SumSoFar, TookProd}
 use Rattle.reader.proofs.progress.Progress.+factor_prod_sum.Given as goal
 
