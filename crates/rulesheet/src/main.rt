@@ -10,7 +10,7 @@ mod naming;
 mod screening;
 
 use std::{env, io};
-use tasks::Task;
+use tasks::{SheetTask, Task};
 
 const HELP: &str = "rulesheet: rule sheets for docking stations
 
@@ -64,21 +64,23 @@ fn run(rt: &HostRuntime) -> io::Result<Outcome> {
         println!(rt; "{HELP}")?;
         return Ok(Outcome::Done);
     };
+    let given = words.len() - 2;
+    if let Some(task) = SheetTask::named(word.as_str()) {
+        if task.takes(given) {
+            return on_sheet(rt, task, words.as_slice());
+        }
+        eprintln!(rt; "rulesheet: {word} takes another number of words; see rulesheet --help")?;
+        return Ok(Outcome::Refused);
+    }
     let Some(task) = Task::named(word.as_str()) else {
         eprintln!(rt; "rulesheet: {word} is no task; rulesheet --help lists the tasks")?;
         return Ok(Outcome::Refused);
     };
     let wanted = task.operands();
-    let given = words.len() - 2;
-    if !task.takes(given) {
-        match task {
-            Task::Help | Task::Version | Task::Names | Task::Compile => eprintln!(rt;
-                "rulesheet: {word} takes {wanted} words after it, and {given} stand there; see rulesheet --help"
-            )?,
-            Task::Check | Task::Screen | Task::List => eprintln!(rt;
-                "rulesheet: {word} takes another number of words; see rulesheet --help"
-            )?,
-        }
+    if given != wanted {
+        eprintln!(rt;
+            "rulesheet: {word} takes {wanted} words after it, and {given} stand there; see rulesheet --help"
+        )?;
         return Ok(Outcome::Refused);
     }
     perform(rt, task, words.as_slice())
@@ -87,23 +89,33 @@ fn run(rt: &HostRuntime) -> io::Result<Outcome> {
 // The words are the program's own name, the task's, and as many as the task takes.
 fn perform(rt: &HostRuntime, task: Task, words: &[String]) -> io::Result<Outcome> {
     match (task, words) {
-        (Task::Names, [_, _, list]) => return naming::names(rt, list.as_str()),
-        (Task::Check, [_, _, words @ ..]) => return check::check(rt, words),
-        (Task::Compile, [_, _, list, sheet, file]) => return filing::write(
+        (Task::Names, [_, _, path]) => return naming::names(rt, path.as_str()),
+        (Task::Version, _) => println!(rt; "{VERSION}")?,
+        _ => println!(rt; "{HELP}")?,
+    }
+    Ok(Outcome::Done)
+}
+
+// The same for a task on a sheet or its code.
+fn on_sheet(rt: &HostRuntime, task: SheetTask, words: &[String]) -> io::Result<Outcome> {
+    match (task, words) {
+        (SheetTask::Check, [_, _, words @ ..]) => check::check(rt, words),
+        (SheetTask::Compile, [_, _, list, sheet, file]) => filing::write(
             rt,
             list.as_str(),
             sheet.as_str(),
             file.as_str(),
         ),
-        (Task::List, [_, _, file, words @ ..]) => return filing::list(rt, file.as_str(), words),
-        (Task::Screen, [_, _, list, sheet, settings @ ..]) => return screening::work_out(
+        (SheetTask::List, [_, _, file, words @ ..]) => filing::list(rt, file.as_str(), words),
+        (SheetTask::Screen, [_, _, list, sheet, settings @ ..]) => screening::work_out(
             rt,
             list.as_str(),
             sheet.as_str(),
             settings,
         ),
-        (Task::Version, _) => println!(rt; "{VERSION}")?,
-        _ => println!(rt; "{HELP}")?,
+        _ => {
+            println!(rt; "{HELP}")?;
+            Ok(Outcome::Done)
+        }
     }
-    Ok(Outcome::Done)
 }

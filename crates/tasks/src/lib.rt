@@ -1,6 +1,9 @@
 // The words of the program's command line.
 #![tactic(auto)]
 
+mod sheet_task;
 mod task;
+mod word;
 
+pub use sheet_task::SheetTask;
 pub use task::Task;
