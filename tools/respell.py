@@ -22,6 +22,14 @@ APART = {
     "scanner": {"seen_by": "seen_by_lem"},
     "screen": {"size_in": "size_in_lem"},
 }
+# Facts, which are spelled as types.
+FACTS = {
+    "grammar": {
+        "Ends-conjunct": "EndsConjunct", "Not-else": "NotElse", "No-else": "NoElse", "Reads-only": "ReadsOnly", "Reads-just": "ReadsJust",
+        "Reads-all": "ReadsAll", "One-tree": "OneTree", "Goes_on": "GoesOn", "Goes-on": "GoesOn",
+    },
+}
+FACTS["reader"] = FACTS["grammar"]
 WORD = re.compile(r"(?<![\w'-])[a-z][\w'-]*")
 
 
@@ -60,7 +68,8 @@ def main(argv):
     spell = lambda m: names[m.group(1)]
     if "--list" not in argv:
         for path in files(".antt"):
-            apart = APART.get(path.split(os.sep)[1])
+            crate = path.split(os.sep)[1]
+            apart = APART.get(crate, {}) | FACTS.get(crate, {})
             if apart:
                 text = open(path, encoding="utf-8").read()
                 open(path, "w", encoding="utf-8").write(word(apart).sub(lambda m: apart[m.group(1)], text))

@@ -11,7 +11,7 @@ use Rattle.grammar.specs.Choices.{mark_of}
 use Rattle.grammar.specs.Lexemes.{Tok, tok}
 use Rattle.grammar.specs.Grammar.{SumOf, ProdOf, FactorOf, ConditionOf, ConjunctOf, LiteralOf, CommandOf, BlockOf, SheetOf}
 use Rattle.grammar.specs.Machine.{Left, none, left, onto, Pending, pending, joined, negated, gathered, sheet_of, Block, whole, if_body, else_body, while_body, Purpose, if_head, while_head, bracket, Use, to_set, left_of, right_of, within, State, want, have, lit, cmd, blocking, else_or, done, if_else, clue_in, behind, shut, left-block, step, start}
-use Rattle.grammar.specs.Theorem.{Derives, Reads-all, One-tree}
+use Rattle.grammar.specs.Theorem.{Derives, ReadsAll, OneTree}
 use Rattle.grammar.proofs.Free.{free, within-limit}
 
 -- a sum has no clue, a condition has one
@@ -119,22 +119,22 @@ data Ends : Lexeme → Type 0 where
   by-or : Ends lexeme.Or
   by-close : Ends lexeme.Close
 
-data Ends-conjunct : Lexeme → Type 0 where
-  by-or : Ends-conjunct lexeme.Or
-  by-close : Ends-conjunct lexeme.Close
+data EndsConjunct : Lexeme → Type 0 where
+  by-or : EndsConjunct lexeme.Or
+  by-close : EndsConjunct lexeme.Close
 
-ends : {l : Lexeme} → Ends-conjunct l → Ends l
-ends Ends-conjunct.by-or = Ends.by-or
-ends Ends-conjunct.by-close = Ends.by-close
+ends : {l : Lexeme} → EndsConjunct l → Ends l
+ends EndsConjunct.by-or = Ends.by-or
+ends EndsConjunct.by-close = Ends.by-close
 
 finish : {y : Lexeme} → Ends y → (q p : ℕ) (k : Comparison) (l : Sum) (s : Left) (e : Sum) (nots : List ℕ) (ands ors : List Pending) (u : Purpose) (rest : List Tok) → step 0 (have s e (right_of p k l nots ands ors u)) (tok q y) rest ≡ behind (negated nots (compare p k l (onto s e))) ands ors u (tok q y)
 finish Ends.by_and q p k l s e nots ands ors u rest = refl
 finish Ends.by-or q p k l s e nots ands ors u rest = refl
 finish Ends.by-close q p k l s e nots ands ors u rest = refl
 
-conjunct-behind : {y : Lexeme} → Ends-conjunct y → (q : ℕ) (c : Condition) (ands ors : List Pending) (u : Purpose) → behind c ands ors u (tok q y) ≡ behind (joined both ands c) [] ors u (tok q y)
-conjunct-behind Ends-conjunct.by-or q c ands ors u = refl
-conjunct-behind Ends-conjunct.by-close q c ands ors u = refl
+conjunct-behind : {y : Lexeme} → EndsConjunct y → (q : ℕ) (c : Condition) (ands ors : List Pending) (u : Purpose) → behind c ands ors u (tok q y) ≡ behind (joined both ands c) [] ors u (tok q y)
+conjunct-behind EndsConjunct.by-or q c ands ors u = refl
+conjunct-behind EndsConjunct.by-close q c ands ors u = refl
 
 mutual
   literals : {us : List Tok} {c : Condition} → LiteralOf us c → (nots : List ℕ) (ands ors : List Pending) (u : Purpose) {y : Lexeme} → Ends y → (q : ℕ) (rest : List Tok) → free (us ++ tok q y ∷ rest) (lit nots ands ors u) ≡ free rest (behind (negated nots c) ands ors u (tok q y))
@@ -159,7 +159,7 @@ mutual
       ∙ ap (λ (ts : List Tok). free ts (lit [] [] [] (bracket nots ands ors u))) behind-it
       ∙ conditions f [] (bracket nots ands ors u) r (x ∷ rest)
 
-  conjuncts : {us : List Tok} {c : Condition} → ConjunctOf us c → (ands ors : List Pending) (u : Purpose) {y : Lexeme} → Ends-conjunct y → (q : ℕ) (rest : List Tok) → free (us ++ tok q y ∷ rest) (lit [] ands ors u) ≡ free rest (behind (joined both ands c) [] ors u (tok q y))
+  conjuncts : {us : List Tok} {c : Condition} → ConjunctOf us c → (ands ors : List Pending) (u : Purpose) {y : Lexeme} → EndsConjunct y → (q : ℕ) (rest : List Tok) → free (us ++ tok q y ∷ rest) (lit [] ands ors u) ≡ free rest (behind (joined both ands c) [] ors u (tok q y))
   conjuncts (ConjunctOf.literal {c} f) ands ors u e q rest = literals f [] ands ors u (ends e) q rest ∙ ap (free rest) (conjunct-behind e q c ands ors u)
   conjuncts (ConjunctOf.literals {us} {vs} {c} p f g) ands ors u {y} e q rest =
       ap (λ (ts : List Tok). free ts (lit [] ands ors u)) (append_assoc us (tok p lexeme.And ∷ vs) (tok q y ∷ rest))
@@ -167,27 +167,27 @@ mutual
       ∙ conjuncts g (pending p c ∷ ands) ors u e q rest
 
   conditions : {us : List Tok} {c : Condition} → ConditionOf us c → (ors : List Pending) (u : Purpose) (q : ℕ) (rest : List Tok) → free (us ++ tok q lexeme.Close ∷ rest) (lit [] [] ors u) ≡ free rest (shut (joined either ors c) u)
-  conditions (ConditionOf.conjunct f) ors u q rest = conjuncts f [] ors u Ends-conjunct.by-close q rest
+  conditions (ConditionOf.conjunct f) ors u q rest = conjuncts f [] ors u EndsConjunct.by-close q rest
   conditions (ConditionOf.conjuncts {us} {vs} {c} p f g) ors u q rest =
       ap (λ (ts : List Tok). free ts (lit [] [] ors u)) (append_assoc us (tok p lexeme.Or ∷ vs) (tok q lexeme.Close ∷ rest))
-      ∙ conjuncts f [] ors u Ends-conjunct.by-or p (vs ++ tok q lexeme.Close ∷ rest)
+      ∙ conjuncts f [] ors u EndsConjunct.by-or p (vs ++ tok q lexeme.Close ∷ rest)
       ∙ conditions g (pending p c ∷ ors) u q rest
 
 -- what follows a command is there, and no else
-abbrev Not-else : Mark → Type 0
-Not-else Else = ⊥
-Not-else Open = Unit {0}
-Not-else Close = Unit {0}
-Not-else OpenBlock = Unit {0}
-Not-else Semicolon = Unit {0}
-Not-else Becomes = Unit {0}
-Not-else Other = Unit {0}
+abbrev NotElse : Mark → Type 0
+NotElse Else = ⊥
+NotElse Open = Unit {0}
+NotElse Close = Unit {0}
+NotElse OpenBlock = Unit {0}
+NotElse Semicolon = Unit {0}
+NotElse Becomes = Unit {0}
+NotElse Other = Unit {0}
 
-abbrev No-else : List Tok → Type 0
-No-else [] = ⊥
-No-else (x ∷ xs) = Not-else (mark_of x.lexeme)
+abbrev NoElse : List Tok → Type 0
+NoElse [] = ⊥
+NoElse (x ∷ xs) = NotElse (mark_of x.lexeme)
 
-not-else : (m : Mark) → Not-else m → (s t : State) → if_else m s t ≡ t
+not-else : (m : Mark) → NotElse m → (s t : State) → if_else m s t ≡ t
 not-else Else n s t = absurd n
 not-else Open n s t = refl
 not-else Close n s t = refl
@@ -196,22 +196,22 @@ not-else Semicolon n s t = refl
 not-else Becomes n s t = refl
 not-else Other n s t = refl
 
-command-first : {us : List Tok} {c : Command} → CommandOf us c → (rest : List Tok) → No-else (us ++ rest)
+command-first : {us : List Tok} {c : Command} → CommandOf us c → (rest : List Tok) → NoElse (us ++ rest)
 command-first (CommandOf.set p x q r f) rest = tt
 command-first (CommandOf.when p q r f g) rest = tt
 command-first (CommandOf.choose p q r s f g h) rest = tt
 command-first (CommandOf.while p q r f g) rest = tt
 
-sheet-first : {us : List Tok} {t : Sheet} → SheetOf us t → (rest : List Tok) → No-else (us ++ rest)
+sheet-first : {us : List Tok} {t : Sheet} → SheetOf us t → (rest : List Tok) → NoElse (us ++ rest)
 sheet-first (SheetOf.only f) rest = command-first f rest
-sheet-first (SheetOf.commands {us} {vs} f g) rest = subst No-else (sym (append_assoc us vs rest)) (command-first f (vs ++ rest))
+sheet-first (SheetOf.commands {us} {vs} f g) rest = subst NoElse (sym (append_assoc us vs rest)) (command-first f (vs ++ rest))
 
-if-over : (p : ℕ) (c : Condition) (t : Sheet) (cs : List Command) (b : Block) (rest : List Tok) → No-else rest → free rest (else_or p c t cs b) ≡ free rest (cmd (when p c t ∷ cs) b)
+if-over : (p : ℕ) (c : Condition) (t : Sheet) (cs : List Command) (b : Block) (rest : List Tok) → NoElse rest → free rest (else_or p c t cs b) ≡ free rest (cmd (when p c t ∷ cs) b)
 if-over p c t cs b [] n = absurd n
 if-over p c t cs b (x ∷ rest) n = ap (free rest) (not-else (mark_of x.lexeme) n _ _)
 
 mutual
-  commands : {us : List Tok} {c : Command} → CommandOf us c → (cs : List Command) (b : Block) (rest : List Tok) → No-else rest → free (us ++ rest) (cmd cs b) ≡ free rest (cmd (c ∷ cs) b)
+  commands : {us : List Tok} {c : Command} → CommandOf us c → (cs : List Command) (b : Block) (rest : List Tok) → NoElse rest → free (us ++ rest) (cmd cs b) ≡ free rest (cmd (c ∷ cs) b)
   commands (CommandOf.set {us} p x q r f) cs b rest n =
       let h = sums f (to_set p x cs b) in
       ap (λ (ts : List Tok). free ts (want none none (to_set p x cs b))) (append_assoc us (tok r lexeme.Semicolon ∷ []) rest)
@@ -240,7 +240,7 @@ mutual
       ∙ ap (free rest) (is q)
 
   -- and a sheet to where its end goes on, whatever that is
-  sheets : {us : List Tok} {t : Sheet} → SheetOf us t → (cs : List Command) (b : Block) (x : Tok) (rest : List Tok) (out : Sheet → State) → No-else (x ∷ rest) → ((c : Command) (cs : List Command) → step 0 (cmd (c ∷ cs) b) x rest ≡ out (sheet_of c cs)) → free (us ++ x ∷ rest) (cmd cs b) ≡ free rest (out (gathered t cs))
+  sheets : {us : List Tok} {t : Sheet} → SheetOf us t → (cs : List Command) (b : Block) (x : Tok) (rest : List Tok) (out : Sheet → State) → NoElse (x ∷ rest) → ((c : Command) (cs : List Command) → step 0 (cmd (c ∷ cs) b) x rest ≡ out (sheet_of c cs)) → free (us ++ x ∷ rest) (cmd cs b) ≡ free rest (out (gathered t cs))
   sheets (SheetOf.only {c} f) cs b x rest out n is = commands f cs b (x ∷ rest) n ∙ ap (free rest) (is c cs)
   sheets (SheetOf.commands {us} {vs} {c} f g) cs b x rest out n is =
       ap (λ (ts : List Tok). free ts (cmd cs b)) (append_assoc us vs (x ∷ rest))
@@ -250,11 +250,11 @@ mutual
 pub free-reads : {us : List Tok} {t : Sheet} (p : ℕ) → SheetOf us t → free (us ++ tok p lexeme.End ∷ []) start ≡ done t
 free-reads p f = sheets f [] whole (tok p lexeme.End) [] done tt (λ _ _. refl)
 
-pub reads_all : Reads-all
+pub reads_all : ReadsAll
 reads_all ts t h few =
     within-limit ts 0 start few ∙ ap (λ (l : List Tok). free l start) h.split ∙ free-reads h.end h.derived
 
-pub one-tree : One-tree
+pub one-tree : OneTree
 one-tree ts t u h i =
     let p : done t ≡ done u = sym (read t h) ∙ read u i in
     cc

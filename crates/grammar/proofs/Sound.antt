@@ -26,7 +26,7 @@ use Rattle.grammar.specs.Lexemes.{Tok, tok}
 use Rattle.grammar.specs.Grammar.{SumOf, FactorOf, ConditionOf, ConjunctOf, LiteralOf, CommandOf, BlockOf, SheetOf}
 use Rattle.grammar.specs.Machine.{Left, none, onto, Pending, sheet_of, Block, else_body, Purpose, bracket, Use, to_set, left_of, right_of, within, State, want, have, lit, had, cmd, becomes, opening, blocking, else_or, done, refused, if_else, if_open, if_close, if_open_block, if_semicolon, if_becomes, room, clue_in, wanted, shut, linked, compared, ended, continued, begun, left-block, closed, finished, commanded, step, run, start}
 use Rattle.grammar.specs.Limits.{FewOpen}
-use Rattle.grammar.specs.Theorem.{Reads-only}
+use Rattle.grammar.specs.Theorem.{ReadsOnly}
 use Rattle.grammar.proofs.Lexing.{run-refused, run-done}
 use Rattle.grammar.proofs.Backwards.{Operands, operand-of, Joins, join-of, Compares, comparison-of, Starts, literal-of, Links, link-of, Commands as Commanding, command-of, Marks, mark-of}
 use Rattle.grammar.proofs.Stands.{LeftSum, LeftProd, whole_sum, whole-prod, Nots, Ands, Ors, whole-literal, whole-conjunct, whole-condition, Commands, whole-sheet, InBlock, Heads, Opening, For, Using, Wanting, Having, Literal, Had, Among, IfRead, Opened, Headed, Stands, After}
@@ -581,7 +581,7 @@ sound (x ∷ ts) us d s t r h e =
     let z : ◌≡◌ {A = ℕ} 0 1 = cc in
     absurd (omega arith))
 
-pub reads_only : Reads-only
+pub reads_only : ReadsOnly
 reads_only ts t e =
     let i = sound ts [] 0 start t (record { a = []; c = []; around = InBlock.outer; read = Commands.nothing; is = refl }) (omega arith) e in
     record { body = i.body; end = i.end; rest = i.rest; split = i.split; derived = i.derived; few = i.few }

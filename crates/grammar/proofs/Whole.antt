@@ -15,50 +15,50 @@ use Rattle.grammar.specs.declared.lexeme.Lexeme.TheVariants as lexeme
 use Rattle.grammar.specs.Choices.{depth_after}
 use Rattle.grammar.specs.Lexemes.{Tok, tok, numeral, listed, word_lexeme, sign_lexeme, lexed, lexemes}
 use Rattle.grammar.specs.Limits.{FewOpen}
-use Rattle.grammar.specs.Theorem.{Reads-just}
+use Rattle.grammar.specs.Theorem.{ReadsJust}
 use Rattle.grammar.proofs.Complete.{reads_all}
 use Rattle.grammar.proofs.Sound.{reads_only}
 
 -- only the end is read as the end
 
-abbrev Goes_on : Lexeme → Type 0
-Goes_on (lexeme.Number v) = Unit {0}
-Goes_on lexeme.TooLarge = Unit {0}
-Goes_on (lexeme.Name y) = Unit {0}
-Goes_on lexeme.Unlisted = Unit {0}
-Goes_on (lexeme.Truth v) = Unit {0}
-Goes_on lexeme.If = Unit {0}
-Goes_on lexeme.Else = Unit {0}
-Goes_on lexeme.While = Unit {0}
-Goes_on (lexeme.Additive o) = Unit {0}
-Goes_on (lexeme.Multiplicative o) = Unit {0}
-Goes_on (lexeme.Compare o) = Unit {0}
-Goes_on lexeme.Not = Unit {0}
-Goes_on lexeme.And = Unit {0}
-Goes_on lexeme.Or = Unit {0}
-Goes_on lexeme.Open = Unit {0}
-Goes_on lexeme.Close = Unit {0}
-Goes_on lexeme.OpenBlock = Unit {0}
-Goes_on lexeme.CloseBlock = Unit {0}
-Goes_on lexeme.Semicolon = Unit {0}
-Goes_on lexeme.Becomes = Unit {0}
-Goes_on lexeme.End = ⊥
-Goes_on lexeme.Stray = Unit {0}
+abbrev GoesOn : Lexeme → Type 0
+GoesOn (lexeme.Number v) = Unit {0}
+GoesOn lexeme.TooLarge = Unit {0}
+GoesOn (lexeme.Name y) = Unit {0}
+GoesOn lexeme.Unlisted = Unit {0}
+GoesOn (lexeme.Truth v) = Unit {0}
+GoesOn lexeme.If = Unit {0}
+GoesOn lexeme.Else = Unit {0}
+GoesOn lexeme.While = Unit {0}
+GoesOn (lexeme.Additive o) = Unit {0}
+GoesOn (lexeme.Multiplicative o) = Unit {0}
+GoesOn (lexeme.Compare o) = Unit {0}
+GoesOn lexeme.Not = Unit {0}
+GoesOn lexeme.And = Unit {0}
+GoesOn lexeme.Or = Unit {0}
+GoesOn lexeme.Open = Unit {0}
+GoesOn lexeme.Close = Unit {0}
+GoesOn lexeme.OpenBlock = Unit {0}
+GoesOn lexeme.CloseBlock = Unit {0}
+GoesOn lexeme.Semicolon = Unit {0}
+GoesOn lexeme.Becomes = Unit {0}
+GoesOn lexeme.End = ⊥
+GoesOn lexeme.Stray = Unit {0}
 
-listed-goes-on : (o : Option ℕ) → Goes_on (listed o)
+listed-goes-on : (o : Option ℕ) → GoesOn (listed o)
 listed-goes-on (Some x) = tt
 listed-goes-on None = tt
 
-word-goes-on : (names : List (List ℕ)) (w : List ℕ) → Goes_on (word_lexeme names w)
+word-goes-on : (names : List (List ℕ)) (w : List ℕ) → GoesOn (word_lexeme names w)
 word-goes-on names w =
-    cond_both (bytes_eq w (codes "if")) _ _ Goes_on (λ _. tt) (λ _.
-    cond_both (bytes_eq w (codes "else")) _ _ Goes_on (λ _. tt) (λ _.
-    cond_both (bytes_eq w (codes "while")) _ _ Goes_on (λ _. tt) (λ _.
-    cond_both (bytes_eq w (codes "true")) _ _ Goes_on (λ _. tt) (λ _.
-    cond_both (bytes_eq w (codes "false")) _ _ Goes_on (λ _. tt) (λ _.
+    cond_both (bytes_eq w (codes "if")) _ _ GoesOn (λ _. tt) (λ _.
+    cond_both (bytes_eq w (codes "else")) _ _ GoesOn (λ _. tt) (λ _.
+    cond_both (bytes_eq w (codes "while")) _ _ GoesOn (λ _. tt) (λ _.
+    cond_both (bytes_eq w (codes "true")) _ _ GoesOn (λ _. tt) (λ _.
+    cond_both (bytes_eq w (codes "false")) _ _ GoesOn (λ _. tt) (λ _.
     listed-goes-on (position w names))))))
 
-sign-goes-on : (s : Symbol) → Goes_on (sign_lexeme s)
+sign-goes-on : (s : Symbol) → GoesOn (sign_lexeme s)
 sign-goes-on symbol.OpenBlock = tt
 sign-goes-on symbol.CloseBlock = tt
 sign-goes-on symbol.Open = tt
@@ -90,16 +90,16 @@ first : List Tok → Lexeme
 first [] = lexeme.Stray
 first (x ∷ xs) = x.lexeme
 
-before : (x : Tok) (xs : List Tok) → Goes_on x.lexeme → Last xs → Last (x ∷ xs)
+before : (x : Tok) (xs : List Tok) → GoesOn x.lexeme → Last xs → Last (x ∷ xs)
 unfolding first
-before x xs g h [] e rest is = absurd (subst Goes_on (ap first is) g)
+before x xs g h [] e rest is = absurd (subst GoesOn (ap first is) g)
 before x xs g h (y ∷ body) e rest is = h body e rest (let n : xs ≡ body ++ tok e lexeme.End ∷ rest = cc in n)
 
 module _ (names : List (List ℕ)) (text : List ℕ) where
   told-last : (k : Kind) (s e : ℕ) (ts : List Token) → Last (lexed names text ts) → Last (lexed names text (token k s e ∷ after k ts))
   told-last kind.Word s e ts h = before _ _ (word-goes-on names (spelled text (token kind.Word s e))) h
   told-last kind.Number s e ts h =
-      before _ _ (cond_both (leb (numeral (spelled text (token kind.Number s e))) 2147483647) _ _ Goes_on (λ _. tt) (λ _. tt)) h
+      before _ _ (cond_both (leb (numeral (spelled text (token kind.Number s e))) 2147483647) _ _ GoesOn (λ _. tt) (λ _. tt)) h
   told-last (kind.Sign x) s e ts h = before _ _ (sign-goes-on x) h
   told-last kind.End s e ts h = alone _
   told-last kind.Stray s e ts h = alone _
@@ -121,7 +121,7 @@ few-with-end : (us : List Tok) (d p : ℕ) → FewOpen d us → FewOpen d (us ++
 few-with-end [] d p h = (h, h)
 few-with-end (x ∷ us) d p h = (h.0, few-with-end us (depth_after x.lexeme d) p h.1)
 
-pub reads-just : Reads-just
+pub reads-just : ReadsJust
 reads-just names text t = record {
   only = λ e.
       let b = reads_only (lexemes names text) t e in

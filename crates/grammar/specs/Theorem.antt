@@ -15,11 +15,11 @@ pub record Derives (ts : List Tok) (t : Sheet) : Type 0 where
   pub split : ts ≡ body ++ tok end lexeme.End ∷ []
   pub derived : SheetOf body t
 
-abbrev pub Reads-all : Type 0
-Reads-all = (ts : List Tok) (t : Sheet) → Derives ts t → FewOpen 0 ts → run ts 0 start ≡ done t
+abbrev pub ReadsAll : Type 0
+ReadsAll = (ts : List Tok) (t : Sheet) → Derives ts t → FewOpen 0 ts → run ts 0 start ≡ done t
 
-abbrev pub One-tree : Type 0
-One-tree = (ts : List Tok) (t u : Sheet) → Derives ts t → Derives ts u → t ≡ u
+abbrev pub OneTree : Type 0
+OneTree = (ts : List Tok) (t u : Sheet) → Derives ts t → Derives ts u → t ≡ u
 
 -- at the front of the tokens stand a sheet within the limit and the end
 pub record Begins (ts : List Tok) (t : Sheet) : Type 0 where
@@ -30,13 +30,13 @@ pub record Begins (ts : List Tok) (t : Sheet) : Type 0 where
   pub derived : SheetOf body t
   pub few : FewOpen 0 body
 
-abbrev pub Reads-only : Type 0
-Reads-only = (ts : List Tok) (t : Sheet) → run ts 0 start ≡ done t → Begins ts t
+abbrev pub ReadsOnly : Type 0
+ReadsOnly = (ts : List Tok) (t : Sheet) → run ts 0 start ≡ done t → Begins ts t
 
 -- a text is read as this tree exactly if its tokens derive it, with at most 32 brackets open
 pub record ReadsAs (names : List (List ℕ)) (text : List ℕ) (t : Sheet) : Type 0 where
   pub only : run (lexemes names text) 0 start ≡ done t → Derives (lexemes names text) t × FewOpen 0 (lexemes names text)
   pub each : Derives (lexemes names text) t → FewOpen 0 (lexemes names text) → run (lexemes names text) 0 start ≡ done t
 
-abbrev pub Reads-just : Type 0
-Reads-just = (names : List (List ℕ)) (text : List ℕ) (t : Sheet) → ReadsAs names text t
+abbrev pub ReadsJust : Type 0
+ReadsJust = (names : List (List ℕ)) (text : List ℕ) (t : Sheet) → ReadsAs names text t
