@@ -9,6 +9,7 @@ mod listing;
 mod naming;
 mod screening;
 
+use std::process::ExitCode;
 use std::{env, io};
 use tasks::{SheetTask, Task};
 
@@ -43,17 +44,14 @@ pub enum Outcome {
     Refused,
 }
 
-// What `main` returns where the program is to end with status 1.
-#[derive(Debug, Drop)]
-struct Failed;
-
-fn main(rt: HostRuntime) -> Result<(), Failed> {
+// Not a `Result`: an error that `main` returned would be printed too, below what was said of the refusal.
+fn main(rt: HostRuntime) -> ExitCode {
     match run(&rt) {
-        Ok(Outcome::Done) => Ok(()),
-        Ok(Outcome::Refused) => Err(Failed),
+        Ok(Outcome::Done) => ExitCode::SUCCESS,
+        Ok(Outcome::Refused) => ExitCode::FAILURE,
         Err(e) => {
             let _ = eprintln!(rt; "rulesheet: {e}");
-            Err(Failed)
+            ExitCode::FAILURE
         }
     }
 }
