@@ -3,13 +3,13 @@ use Rattle.std.proofs.Common.{◌≡◌, ℕ, Bool, true, false, cond, eqb, List
 use Rattle.std.proofs.ByRecursion.{All-push}
 use Rattle.std.proofs.lemmas.List.{append-nil, append_assoc}
 use Rattle.std.proofs.lemmas.Bool.{eqb-true, eqb-false, ne_eqb, cond-false}
-use Rattle.std.specs.List.{AllByRecursion as All}
+use Rattle.std.specs.List.{AllByRecursion}
 use Rattle.names.specs.Lines.{lines_from, lines_of, rest_from, rest_of}
 use Rattle.names.specs.Names.{written}
 
 -- it has no byte 10
 abbrev pub Plain : List ℕ → Type 0
-Plain bs = All (λ b. b ≡ 10 → ⊥) bs
+Plain bs = AllByRecursion (λ b. b ≡ 10 → ⊥) bs
 
 pub lines-append : (l xs ys : List ℕ) → lines_from l (xs ++ ys) ≡ lines_from l xs ++ lines_from (rest_from l xs) ys
 lines-append l [] ys = refl
@@ -35,16 +35,16 @@ parts_from l (b ∷ bs) =
 pub parts : (text : List ℕ) → text ≡ written (lines_of text) ++ rest_of text
 parts text = parts_from [] text
 
-lines-plain-from : (l bs : List ℕ) → Plain l → All Plain (lines_from l bs) × Plain (rest_from l bs)
+lines-plain-from : (l bs : List ℕ) → Plain l → AllByRecursion Plain (lines_from l bs) × Plain (rest_from l bs)
 lines-plain-from l [] p = (tt, p)
 lines-plain-from l (b ∷ bs) p =
-    elim (eqb b 10) as (λ (t : Bool). eqb b 10 ≡ t → All Plain (cond t (l ∷ lines_from [] bs) (lines_from (l ++ b ∷ []) bs)) × Plain (cond t (rest_from [] bs) (rest_from (l ++ b ∷ []) bs))) [
+    elim (eqb b 10) as (λ (t : Bool). eqb b 10 ≡ t → AllByRecursion Plain (cond t (l ∷ lines_from [] bs) (lines_from (l ++ b ∷ []) bs)) × Plain (cond t (rest_from [] bs) (rest_from (l ++ b ∷ []) bs))) [
       | true ↦ λ e. let q = lines-plain-from [] bs tt in ((p, q.0), q.1)
       | false ↦ λ e. lines-plain-from (l ++ b ∷ []) bs (All-push (λ x. x ≡ 10 → ⊥) l b p (eqb-false b 10 e))
     ]
     refl
 
-pub lines-plain : (text : List ℕ) → All Plain (lines_of text)
+pub lines-plain : (text : List ℕ) → AllByRecursion Plain (lines_of text)
 lines-plain text = (lines-plain-from [] text tt).0
 
 pub rest_plain : (text : List ℕ) → Plain (rest_of text)
@@ -62,10 +62,10 @@ line-from l (b ∷ w) after p =
 pub one_line : (w after : List ℕ) → Plain w → lines_of (w ++ 10 ∷ after) ≡ w ∷ lines_of after
 one_line w after p = (line-from [] w after p).0
 
-pub lines-written : (ws : List (List ℕ)) → All Plain ws → lines_of (written ws) ≡ ws
+pub lines-written : (ws : List (List ℕ)) → AllByRecursion Plain ws → lines_of (written ws) ≡ ws
 lines-written [] p = refl
 lines-written (w ∷ ws) p = one_line w (written ws) p.0 ∙ ap (λ (x : List (List ℕ)). w ∷ x) (lines-written ws p.1)
 
-pub rest-written : (ws : List (List ℕ)) → All Plain ws → rest_of (written ws) ≡ []
+pub rest-written : (ws : List (List ℕ)) → AllByRecursion Plain ws → rest_of (written ws) ≡ []
 rest-written [] p = refl
 rest-written (w ∷ ws) p = (line-from [] w (written ws) p.0).1 ∙ rest-written ws p.1

@@ -5,7 +5,7 @@ use Rattle.std.proofs.ByRecursion.{All-push, All-weaker}
 use Rattle.std.proofs.lemmas.Slice.Eq.{bytes_eq-Decides}
 use Rattle.std.proofs.lemmas.List.{append-nil, append_assoc, length-append, length_push, get_or_append_left, get_or_push}
 use Rattle.std.proofs.lemmas.Bool.{leb-false, lt-leb, ltb-false, le-ltb, cases_lt, false≢true, both_ways, and_parts}
-use Rattle.std.specs.List.{AllByRecursion as All}
+use Rattle.std.specs.List.{AllByRecursion}
 use Rattle.std.specs.Str.{bytes_eq}
 use Rattle.scanner.specs.Words.{is_word, all_go_on, goes_on, begins_word}
 use Rattle.names.specs.declared.bad_line.BadLine.{BadLine}
@@ -75,7 +75,7 @@ word-plain : (w : List ℕ) → is_word w ≡ true → Plain w
 word-plain [] e = tt
 word-plain (b ∷ bs) e = let p = and_parts (begins_word b) (all_go_on bs) e in (begins-plain b p.0, all_plain bs p.1)
 
-names-plain : (ws : List (List ℕ)) → All Name ws → All Plain ws
+names-plain : (ws : List (List ℕ)) → AllByRecursion Name ws → AllByRecursion Plain ws
 names-plain ws h = All-weaker Name Plain (λ w n. word-plain w n.word) ws h
 
 -- A line has no complaint exactly if the names with it are fine.
@@ -108,7 +108,7 @@ module _ (seen : List (List ℕ)) (l : List ℕ) where
             ];
       }
 
-front-all : {X : Type 0} (P : X → Type 0) (xs ys : List X) → All P (xs ++ ys) → All P xs × All P ys
+front-all : {X : Type 0} (P : X → Type 0) (xs ys : List X) → AllByRecursion P (xs ++ ys) → AllByRecursion P xs × AllByRecursion P ys
 front-all P [] ys h = (tt, h)
 front-all P (x ∷ xs) ys h = let q = front-all P xs ys h.1 in ((h.0, q.0), q.1)
 
@@ -163,7 +163,7 @@ none-map text (Some x) f h = h
 abbrev Walked : List ℕ → List (List ℕ) → List (List ℕ) → List ℕ → Option BadLine → Type 0
 Walked text seen ls rest o = MatchOption o (Fine (seen ++ ls) × (rest ≡ [])) (λ bad. Breaks text bad.start)
 
-walk : (text : List ℕ) (seen : List (List ℕ)) (start : ℕ) (ls : List (List ℕ)) (rest : List ℕ) → Fine seen → start ≡ length (written seen) → All Plain ls → Plain rest → text ≡ written seen ++ (written ls ++ rest) → Walked text seen ls rest (first_bad seen start ls rest)
+walk : (text : List ℕ) (seen : List (List ℕ)) (start : ℕ) (ls : List (List ℕ)) (rest : List ℕ) → Fine seen → start ≡ length (written seen) → AllByRecursion Plain ls → Plain rest → text ≡ written seen ++ (written ls ++ rest) → Walked text seen ls rest (first_bad seen start ls rest)
 walk text seen start [] [] f at p q e = (subst Fine (sym (append-nil seen)) f, refl)
 walk text seen start [] (b ∷ bs) f at p q e =
     record {

@@ -2,7 +2,7 @@
 -- at most 16 bytes that the language does not keep for itself, and it stands once. Nothing here speaks of how a
 -- list is read; that the reader accepts just these lists is a law on its contract.
 use Rattle.std.specs.Prelude.{◌≡◌, ℕ, ◌<◌, ◌≤◌, Bool, true, false, ◌||◌, List, [], ◌∷◌, ◌++◌, length, is_ok, IfErr, codes, Option, Result, MatchOption, ◌≢◌, slice_index_or}
-use Rattle.std.specs.List.{AllByRecursion as All}
+use Rattle.std.specs.List.{AllByRecursion}
 use Rattle.std.specs.Str.{bytes_eq}
 use Rattle.faults.specs.declared.fault.Fault.{Fault}
 use Rattle.scanner.specs.Words.{is_word}
@@ -20,7 +20,7 @@ pub record Name (w : List ℕ) : Type 0 where
 -- the names of a list so far
 pub record Fine (names : List (List ℕ)) : Type 0 where
   pub few : length names ≤ 64
-  pub named : All Name names
+  pub named : AllByRecursion Name names
   pub once : (i j : ℕ) → i < j → j < length names → slice_index_or names i [] ≢ slice_index_or names j []
 
 -- the text of a list: each name and byte 10

@@ -1,6 +1,6 @@
 -- The look finds a clue exactly where one stands before the partner.
 use Rattle.std.proofs.Common.{◌≡◌, ℕ, zero, suc, ◌+◌, ◌≤◌, Bool, true, List, [], ◌∷◌, ◌++◌, take, sym, refl, ap, ◌∙◌, arith}
-use Rattle.std.specs.List.{AllByRecursion as All}
+use Rattle.std.specs.List.{AllByRecursion}
 use Rattle.std.proofs.lemmas.Bool.{false≢true}
 use Rattle.scanner.specs.Looks.{sight_of, seen_by, clue_ahead}
 use Rattle.scanner.specs.Clues.{opens_one, closes_one, opened, closed, ClueStands, OpensCondition}
@@ -58,7 +58,7 @@ module _ (text : List ℕ) where
       let c : closes_one (sight_of text t) ≡ closes_one s = ap closes_one is in
       omega (arith, h (suc n))
 
-  finds : (before : List Token) (clue : Token) (behind : List Token) (d : ℕ) → sight_of text clue ≡ Clue → Unpartnered d before → All Reached before → clue_ahead text (before ++ clue ∷ behind) d ≡ true
+  finds : (before : List Token) (clue : Token) (behind : List Token) (d : ℕ) → sight_of text clue ≡ Clue → Unpartnered d before → AllByRecursion Reached before → clue_ahead text (before ++ clue ∷ behind) d ≡ true
   finds [] clue behind d is u r = ap (λ (s : Sight). seen_by s d (clue_ahead text behind)) is
   finds (t ∷ before) clue behind d is u (reach, r) =
       by (λ e v. finds before clue behind e is v r) (sight_of text t) d refl u

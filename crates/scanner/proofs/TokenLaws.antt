@@ -4,7 +4,7 @@ use Rattle.std.proofs.lemmas.List.{drop-drop}
 use Rattle.std.proofs.lemmas.Bool.{and_parts, and_from, cond_both, both_ways}
 use Rattle.std.proofs.lemmas.Bool.Decides.{nat_tests}
 use Rattle.std.specs.Char.{is_ascii_digit}
-use Rattle.std.specs.List.{AllByRecursion as All}
+use Rattle.std.specs.List.{AllByRecursion}
 use Rattle.scanner.specs.Words.{begins_word, goes_on, all_go_on}
 use Rattle.scanner.specs.Tokens.{is_blank, run_of, pair_front, single_sign, sign_or, sign_front, front, standing, token_at}
 use Rattle.scanner.specs.Spelling.{all_digits, Spells, NoLonger, Fronts, Found}
@@ -35,11 +35,11 @@ module _ (test : ℕ → Bool) (all : List ℕ → Bool) (nil : all [] ≡ true)
       let more = run-most m bs (omega arith) p.1 in
       omega (arith, run_on test b bs p.0)
 
-blanks-passed : (bs : List ℕ) → All (λ b. is_blank b ≡ true) (take (run_of is_blank bs) bs)
+blanks-passed : (bs : List ℕ) → AllByRecursion (λ b. is_blank b ≡ true) (take (run_of is_blank bs) bs)
 blanks-passed [] = tt
 blanks-passed (b ∷ bs) =
     let h = blanks-passed bs in
-    elim (is_blank b) as (λ (v : Bool). is_blank b ≡ v → All (λ b. is_blank b ≡ true) (take (cond v (suc (run_of is_blank bs)) 0) (b ∷ bs))) [ true ↦ λ e. (e, h) | false ↦ λ e. tt ] refl
+    elim (is_blank b) as (λ (v : Bool). is_blank b ≡ v → AllByRecursion (λ b. is_blank b ≡ true) (take (cond v (suc (run_of is_blank bs)) 0) (b ∷ bs))) [ true ↦ λ e. (e, h) | false ↦ λ e. tt ] refl
 
 digit-no-word : (b : ℕ) → is_ascii_digit b ≡ true → begins_word b ≡ false
 digit-no-word b e = grind (arith, nat_tests)
@@ -131,7 +131,7 @@ found-law text at =
     let n : r ≡ s - at = omega arith in
     let off : run_of is_blank (drop s text) ≡ 0 = sym (ap (run_of is_blank) (drop-drop r at text)) ∙ run-whole is_blank (drop at text) in
     let e = starts s (drop s text) in
-    let Blank : ℕ → Type 0 = λ n. All (λ b. is_blank b ≡ true) (take n (drop at text)) in
+    let Blank : ℕ → Type 0 = λ n. AllByRecursion (λ b. is_blank b ≡ true) (take n (drop at text)) in
     let Begins : ℕ → Type 0 = λ s. (b : ℕ) (bs : List ℕ) → drop s text ≡ b ∷ bs → is_blank b ≡ false in
     let Longest : ℕ → Type 0 = λ m. Fronts (found text at).kind ((found text at).end - m) (drop m text) in
     record {

@@ -3,7 +3,7 @@
 -- tokens up to the clue never close more than they open. Nothing here walks or counts as the look does; that the
 -- look answers just this is a law on its contract.
 use Rattle.std.specs.Prelude.{◌≡◌, ℕ, ◌+◌, ◌≤◌, Bool, true, List, [], ◌∷◌, ◌++◌, take, ◌≢◌}
-use Rattle.std.specs.List.{AllByRecursion as All}
+use Rattle.std.specs.List.{AllByRecursion}
 use Rattle.scanner.specs.Looks.{sight_of}
 use Rattle.scanner.specs.declared.token.Token.{Token}
 use Rattle.scanner.specs.declared.look.Sight.{Sight}
@@ -40,7 +40,7 @@ pub record ClueStands (text : List ℕ) (depth : ℕ) (ts : List Token) : Type 0
   pub split : ts ≡ before ++ clue ∷ behind
   pub is : sight_of text clue ≡ Clue
   pub unpartnered : (n : ℕ) → closed text (take n before) ≤ depth + opened text (take n before)
-  pub tokens : All (λ t. sight_of text t ≢ Stops) before
+  pub tokens : AllByRecursion (λ t. sight_of text t ≢ Stops) before
 
 -- the answer is that a clue stands before the partner
 pub record OpensCondition (text : List ℕ) (ts : List Token) (r : Bool) : Type 0 where

@@ -3,7 +3,7 @@
 -- scanner finds just these tokens is a law on its contract.
 use Rattle.std.specs.Prelude.{◌≡◌, ℕ, ◌-◌, ◌≤◌, Bool, true, false, ◌&&◌, List, [], ◌∷◌, length, take, drop, codes}
 use Rattle.std.specs.Char.{is_ascii_digit}
-use Rattle.std.specs.List.{AllByRecursion as All}
+use Rattle.std.specs.List.{AllByRecursion}
 use Rattle.scanner.specs.Words.{is_word}
 use Rattle.scanner.specs.Tokens.{is_blank}
 use Rattle.scanner.specs.declared.token.ComparisonSign.{ComparisonSign}
@@ -68,6 +68,6 @@ Fronts Stray n bs = NoLonger 0 bs
 
 -- blanks up to the token, no blank where it begins, and there the longest token
 pub record Found (text : List ℕ) (at : ℕ) (t : Token) : Type 0 where
-  pub blanks : All (λ b. is_blank b ≡ true) (take (t.start - at) (drop at text))
+  pub blanks : AllByRecursion (λ b. is_blank b ≡ true) (take (t.start - at) (drop at text))
   pub begins : (b : ℕ) (bs : List ℕ) → drop t.start text ≡ b ∷ bs → is_blank b ≡ false
   pub longest : Fronts t.kind (t.end - t.start) (drop t.start text)
