@@ -89,3 +89,8 @@ overlaid-more xs os i h = rw add-one (overlaid-suc xs os i h)
 -- a write leaves what `set` leaves, past the end nothing
 pub wrote-sets : (xs : List ℤ) (p : ℕ) (v : ℤ) → (wrote xs p v).1 ≡ set xs p v
 wrote-sets xs p v = grind (arith, nat_tests, set_past)
+
+-- so a bank that has the first points of an overlay has one more after the write of the next
+pub one-down : (ys xs : List ℤ) (os : List (Option ℤ)) (i : ℕ) (v : ℤ) → i < length os → ys ≡ overlaid xs (take i os) → get_or os i None ≡ Some v → (wrote ys i v).1 ≡ overlaid xs (take (i + 1) os)
+one-down ys xs os i v h e s =
+    wrote-sets ys i v ∙ ap (λ (zs : List ℤ). set zs i v) e ∙ sym (overlaid-more xs os i h ∙ ap (with (overlaid xs (take i os)) i) s)

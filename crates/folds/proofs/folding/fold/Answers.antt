@@ -24,6 +24,21 @@ loop-i-init g c =
     let xs = c.new-stack.result.slots.now in
     (ap (passes g.A.Algebra.sums g.A.Algebra.rest c.args.rows.now) (ap (λ (n : ℕ). top_first n xs) held ∙ top-none xs), omega arith, refl, refl, refl)
 
+pub loop-i-preserved : goal.loop-i-preserved
+loop-i-preserved g c =
+    let s = g.A.Algebra.sums in
+    let a = g.A.Algebra.rest in
+    let rows = c.args.rows.now in
+    let inv = c.loop-i.invariant in
+    let few = inv.1 in
+    let held = c.step-stack.ensures.held in (
+      onward s a rows c.loop-i.i _ _ c.loop-i-test.true c.step-stack.ensures.holds ∙ inv.0,
+      omega arith,
+      c.step-stack.ensures.size ∙ inv.2,
+      c.step-stack.ensures.spare (length rows) (omega arith) ∙ inv.3,
+      c.step-stack.ensures.lender ∙ inv.4,
+    )
+
 pub step-stack-requires : goal.step-stack-requires
 step-stack-requires g c =
     let s = g.A.Algebra.sums in
@@ -40,21 +55,6 @@ step-stack-requires g c =
     let l = length-top c.loop-i.stack.slots.now c.loop-i.stack.held (omega arith) in
     let parts = enough s a rows i st _ c.loop-i-test.true end in
     record { parts = omega arith; room = omega arith }
-
-pub loop-i-preserved : goal.loop-i-preserved
-loop-i-preserved g c =
-    let s = g.A.Algebra.sums in
-    let a = g.A.Algebra.rest in
-    let rows = c.args.rows.now in
-    let inv = c.loop-i.invariant in
-    let few = inv.1 in
-    let held = c.step-stack.ensures.held in (
-      onward s a rows c.loop-i.i _ _ c.loop-i-test.true c.step-stack.ensures.holds ∙ inv.0,
-      omega arith,
-      c.step-stack.ensures.size ∙ inv.2,
-      c.step-stack.ensures.spare (length rows) (omega arith) ∙ inv.3,
-      c.step-stack.ensures.lender ∙ inv.4,
-    )
 
 -- the pass is at its end, and the stack holds the tree's value alone
 alone : {V : Type 0} (st : List V) (v : V) → Some st ≡ Some (v ∷ []) → st ≡ v ∷ []

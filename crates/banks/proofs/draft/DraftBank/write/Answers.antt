@@ -2,11 +2,17 @@ use Rattle.std.proofs.Common.{refl, arith, w32, SFits, rules}
 use Rattle.banks.proofs.Drafts.{noted-as, write-shows}
 use Rattle.banks.proofs.draft.DraftBank.write.Goals as goal
 
-pub returns : goal.returns
-returns g c =
+pub returns-clause-untouched : goal.returns-clause-untouched
+returns-clause-untouched g c = refl
+
+pub returns-clause-same : goal.returns-clause-same
+returns-clause-same g c = refl
+
+pub returns-clause-value : goal.returns-clause-value
+returns-clause-value g c =
     let xs = g.B.Bank.points c.args.self.now.below.now in
     let os = c.args.self.now.over.held in
     let w = c.args.self.now.over.whole in
     let f : SFits w32 c.args.value = search rules in
     let e = noted-as _ _ os c.args.point c.args.value _ f c.note.ensures c.count-count.ensures.value in
-    record { value = write-shows xs os _ c.args.point c.args.value _ (omega arith) e; same = refl; untouched = refl }
+    write-shows xs os _ c.args.point c.args.value _ (omega arith) e

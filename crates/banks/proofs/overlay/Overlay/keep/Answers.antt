@@ -1,7 +1,9 @@
-use Rattle.std.proofs.Common.{◌<◌, length, sym, refl, subst, arith}
+use Rattle.std.proofs.Common.{◌<◌, List, length, ℤ, Result, sym, refl, ap, ◌∙◌, subst, arith, w32, SFits, rules}
 use Rattle.std.proofs.lemmas.Int.{to_z-of_z}
+use Rattle.faults.specs.declared.fault.Fault.{Fault}
+use Rattle.banks.specs.Points.{wrote}
 use Rattle.banks.specs.Laws.{Direct, AsOne}
-use Rattle.banks.proofs.Overlaid.{overlaid-nil, overlaid-more, overlaid-all, wrote-sets}
+use Rattle.banks.proofs.Overlaid.{overlaid-nil, overlaid-more, overlaid-all, one-down}
 use Rattle.banks.proofs.Drafts.{is-direct, is_one}
 use Rattle.banks.proofs.overlay.Overlay.keep.Goals.{in-Some, in_default}
 use Rattle.banks.proofs.overlay.Overlay.keep.Goals as goal
@@ -11,11 +13,20 @@ loop-point-init g c = (sym (overlaid-nil _), refl)
 
 pub loop-point-preserved : goal.loop-point-preserved
 loop-point-preserved g c =
+    let xs = g.B.Bank.points c.args.bank.now in
     let n = c.args.self.now.whole in
     let h : c.loop-point.point < length c.args.self.now.held = omega arith in
-    let m = overlaid-more (g.B.Bank.points c.args.bank.now) c.args.self.now.held c.loop-point.point h in
+    let m = overlaid-more xs c.args.self.now.held c.loop-point.point h in
     elim c.match-self-point.branch [
-      | in-Some w ↦ (grind (arith, to_z-of_z, wrote-sets), grind arith)
+      | in-Some w ↦
+          let v = w.in-Some.value in
+          let f : SFits w32 v = search rules in (
+            ap g.B.Bank.points w.bank-is
+                ∙ ap (λ (t : Result ℤ Fault × List ℤ). t.1) w.write.ensures.value
+                ∙ ap (λ (x : ℤ). (wrote (g.B.Bank.points c.loop-point.bank) c.loop-point.point x).1) (to_z-of_z w32 v f)
+                ∙ one-down _ xs c.args.self.now.held c.loop-point.point v h c.loop-point.invariant.0 w.in-Some.is,
+            grind arith,
+          )
       | in_default w ↦ (grind arith, grind arith)
     ]
 
