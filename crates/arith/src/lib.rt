@@ -5,7 +5,7 @@
 mod comparison;
 mod operator;
 
-pub use comparison::Comparison;
+pub use comparison::{Comparison, NoComparison};
 pub use operator::Operator;
 
 #[cfg(test)]

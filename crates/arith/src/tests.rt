@@ -1,5 +1,5 @@
 // The limits of 32 bits, the corners of division, and each comparison below, at and above.
-use crate::comparison::Comparison;
+use crate::comparison::{Comparison, NoComparison};
 use crate::operator::Operator;
 use faults::RunCause;
 
@@ -49,12 +49,13 @@ fn comparisons_below_at_and_above(rt: HostRuntime) {
         assert_eq!(rt; comparison.holds(-1, -1), *at);
         assert_eq!(rt; comparison.holds(0, -1), *above);
         assert_eq!(rt; comparison.holds(i32::MAX, i32::MIN), *above);
-        assert_eq!(rt; comparison.number() as usize, i);
-        assert_eq!(rt;
-            Comparison::from_number(u32::from(comparison.number())),
-            Some(*comparison)
-        );
+        let number = u8::from(*comparison);
+        assert_eq!(rt; usize::from(number), i);
+        assert_eq!(rt; Comparison::try_from(u32::from(number)), Ok(*comparison));
     }
-    assert_eq!(rt; Comparison::from_number(6), None);
-    assert_eq!(rt; Comparison::from_number(u32::MAX), None);
+    assert_eq!(rt; Comparison::try_from(6), Err(NoComparison { number: 6 }));
+    assert_eq!(rt;
+        Comparison::try_from(u32::MAX),
+        Err(NoComparison { number: u32::MAX, })
+    );
 }

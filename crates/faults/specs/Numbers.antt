@@ -17,6 +17,7 @@ use Rattle.faults.specs.declared.causes.BankCause.TheVariants.{NoPoint}
 use Rattle.faults.specs.declared.causes.RunCause.{RunCause}
 use Rattle.faults.specs.declared.causes.RunCause.TheVariants.{AllowanceSpent, ZeroDivisor, StackBreach}
 use Rattle.faults.specs.declared.causes.Layer.{Layer}
+use Rattle.faults.specs.declared.fault.Fault.{Fault}
 use Rattle.faults.specs.declared.causes.Layer.TheVariants.{Reader, Table, Compiler, File, Station, Bank, Run}
 
 abbrev pub reader_number : ReaderCause → ℕ
@@ -62,3 +63,7 @@ number_of (File c) = file_number c
 number_of (Station c) = station_number c
 number_of (Bank c) = bank_number c
 number_of (Run c) = run_number c
+
+-- the record of a refusal with this figure
+abbrev pub fault_of : Layer → ℕ → Fault
+fault_of layer figure = record { layer = layer; figure = figure }

@@ -1,6 +1,6 @@
 // The record that every refusal is.
 ghost use Rattle.std.specs.Prelude.{◌≡◌};
-ghost use Rattle.faults.specs.Numbers.{number_of};
+ghost use Rattle.faults.specs.Numbers.{number_of, fault_of};
 
 use crate::causes::Layer;
 
@@ -12,6 +12,16 @@ pub struct Fault {
 }
 
 impl Fault {
+    // A figure is a place, a count or a limit in nearly every case: a length of something in memory.
+    pub fn new(layer: Layer, figure: usize) -> Fault
+        ensures { result ≡ fault_of layer figure }
+    {
+        Fault {
+            layer,
+            figure: figure as u64,
+        }
+    }
+
     pub fn number(self) -> u8
         ensures { result ≡ number_of self.layer }
     {

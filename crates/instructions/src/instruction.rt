@@ -1,10 +1,12 @@
 // One instruction of stack code with its operand.
-ghost use Rattle.std.specs.Prelude.{◌≡◌};
+ghost use Rattle.std.specs.Prelude.{◌≡◌, Some};
 ghost use Rattle.instructions.specs.Codes.{code_of};
 ghost use Rattle.instructions.specs.Effects.{effect_of};
+ghost use Rattle.instructions.specs.Words.{instruction_words};
 
 use crate::effect::{Effect, effect_at};
 use arith::Comparison;
+use std::fmt;
 
 // Points and addresses are as wide as 64 points and 1,024 instructions need.
 #[derive(Clone, Copy, PartialEq, Eq, Debug)]
@@ -53,5 +55,29 @@ impl Instruction {
         ensures { result ≡ effect_of self }
     {
         effect_at(self.code())
+    }
+}
+
+// The instruction's name, and its operand where it has one.
+impl fmt::Display for Instruction {
+    ghost output = { λ i. Some (instruction_words i) };
+
+    fn fmt<W: fmt::Write>(&self, f: &mut fmt::Formatter<W>) -> fmt::Result {
+        match *self {
+            Instruction::Push(number) => write!(f, "Push {number}"),
+            Instruction::Load(point) => write!(f, "Load {point}"),
+            Instruction::Save(point) => write!(f, "Save {point}"),
+            Instruction::Pop => write!(f, "Pop"),
+            Instruction::Add => write!(f, "Add"),
+            Instruction::Sub => write!(f, "Sub"),
+            Instruction::Mul => write!(f, "Mul"),
+            Instruction::Div => write!(f, "Div"),
+            Instruction::Cmp(comparison) => write!(f, "Cmp {comparison}"),
+            Instruction::Inv => write!(f, "Inv"),
+            Instruction::And => write!(f, "And"),
+            Instruction::Or => write!(f, "Or"),
+            Instruction::JumpF(address) => write!(f, "JumpF {address}"),
+            Instruction::Jump(address) => write!(f, "Jump {address}"),
+        }
     }
 }

@@ -5,3 +5,4 @@ pub mod Sorts
 pub mod Checks
 pub mod Values
 pub mod Passes
+pub mod Kinds

@@ -1,6 +1,6 @@
 -- What sort of thing each kind of row is, and of what sorts its parts are, left part first. It is the shape of the
 -- trees read off the kinds: the laws of the check say that it is the right one.
-use Rattle.std.specs.Prelude.{Bool, true, false}
+use Rattle.std.specs.Prelude.{ℕ, Bool, true, false}
 use Rattle.tables.specs.declared.kind.Kind.{Kind}
 use Rattle.tables.specs.declared.kind.Kind.TheVariants.{Number, Name, Add, Sub, Mul, Div, Truth, Compare, Not, And, Or, Set, If, IfElse, While, Joint}
 use Rattle.tables.specs.declared.sort.Sort as sort
@@ -62,3 +62,13 @@ serves_as Sheet Sum = false
 serves_as Sheet Condition = false
 serves_as Sheet Command = false
 serves_as Sheet Sheet = true
+
+abbrev pub count_of : Parts → ℕ
+count_of Zero = 0
+count_of (One a) = 1
+count_of (Two a b) = 2
+count_of (Three a b c) = 3
+
+-- how many parts a row has
+abbrev pub part_count : Kind → ℕ
+part_count k = count_of (parts_of k)

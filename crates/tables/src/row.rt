@@ -1,8 +1,10 @@
 // One row of a table.
 ghost use Rattle.std.specs.Prelude.{◌≡◌};
 ghost use Rattle.tables.specs.Rows.{blank};
+ghost use Rattle.tables.specs.Kinds.{comparison_in};
 
 use crate::kind::Kind;
+use arith::Comparison;
 
 // The size counts the row and its parts' rows; the place is where the row's sign stands in the sheet.
 #[derive(Clone, Copy, PartialEq, Eq, Debug)]
@@ -24,5 +26,13 @@ impl Row {
             size: 0,
             place: 0,
         }
+    }
+
+    // The comparison that its value names, where it names one.
+    pub fn comparison(self) -> Option<Comparison>
+        ensures { result ≡ comparison_in self.value }
+    {
+        let number = u32::try_from(self.value).ok()?;
+        Comparison::try_from(number).ok()
     }
 }

@@ -1,10 +1,10 @@
 // What sort of thing each kind of row is, and of what sorts its parts are: the grammar of a table.
 ghost use Rattle.std.specs.Prelude.{◌≡◌};
-ghost use Rattle.tables.specs.Sorts.{sort_of, parts_of, serves_as};
+ghost use Rattle.tables.specs.Sorts.{sort_of, parts_of, serves_as, count_of, part_count};
 
 use crate::kind::Kind;
 
-#[derive(Clone, Copy)]
+#[derive(Clone, Copy, PartialEq, Eq, Debug)]
 pub enum Sort {
     Sum,
     Condition,
@@ -13,7 +13,7 @@ pub enum Sort {
 }
 
 // The sorts of a row's parts, left part first.
-#[derive(Clone, Copy)]
+#[derive(Clone, Copy, PartialEq, Eq, Debug)]
 pub enum Parts {
     Zero,
     One(Sort),
@@ -26,13 +26,19 @@ impl Sort {
     pub(crate) fn serves_as(self, wanted: Sort) -> bool
         ensures { result ≡ serves_as self wanted }
     {
-        match (self, wanted) {
-            (Sort::Sum, Sort::Sum) => true,
-            (Sort::Condition, Sort::Condition) => true,
-            (Sort::Command, Sort::Command) => true,
-            (Sort::Command, Sort::Sheet) => true,
-            (Sort::Sheet, Sort::Sheet) => true,
-            _ => false,
+        self == wanted || (self == Sort::Command && wanted == Sort::Sheet)
+    }
+}
+
+impl Parts {
+    fn count(self) -> usize
+        ensures { result ≡ count_of self }
+    {
+        match self {
+            Parts::Zero => 0,
+            Parts::One(..) => 1,
+            Parts::Two(..) => 2,
+            Parts::Three(..) => 3,
         }
     }
 }
@@ -65,5 +71,12 @@ impl Kind {
             Kind::IfElse => Parts::Three(Sort::Condition, Sort::Sheet, Sort::Sheet),
             Kind::Joint => Parts::Two(Sort::Command, Sort::Sheet),
         }
+    }
+
+    // How many parts a row has.
+    pub fn part_count(self) -> usize
+        ensures { result ≡ part_count self }
+    {
+        self.parts().count()
     }
 }

@@ -22,16 +22,10 @@ impl<'a> Table<'a> {
         ensures one_tree { OneTree rows.now }
     {
         if !is_table(rows, points) {
-            return Err(Fault {
-                layer: Layer::Table(TableCause::NoTable),
-                figure: 0,
-            });
+            return Err(Fault::new(Layer::Table(TableCause::NoTable), 0));
         }
         if points > MOST_POINTS {
-            return Err(Fault {
-                layer: Layer::Bank(BankCause::NoPoint),
-                figure: points as u64,
-            });
+            return Err(Fault::new(Layer::Bank(BankCause::NoPoint), points));
         }
         Ok(Table { rows })
     }
