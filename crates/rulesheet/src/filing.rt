@@ -1,25 +1,22 @@
 // `rulesheet compile NAMES SHEET FILE` and `rulesheet list FILE [--names NAMES]`
+use crate::code::Code;
+use crate::failure::Failure;
+use crate::input;
+use crate::input::Sheet;
 use crate::listing::print_code;
-use crate::{Outcome, code, input};
 use faults::Fault;
 use instructions::Instruction;
 use names::NameList;
 use station_file::{Begin, MOST_INSTRUCTIONS, StationFile};
-use std::{fs, io};
+use std::fs;
 
 // The most bytes a file can have: two counts of two bytes, 1,024 instructions of five, a count and 1,024 places of two.
 const MOST_BYTES: usize = 6 + 7 * MOST_INSTRUCTIONS;
 
-pub(crate) fn write(rt: &HostRuntime, list: &str, text: &str, path: &str) -> io::Result<Outcome> {
-    let Some(sheet) = input::read_sheet(rt, list, text)? else {
-        return Ok(Outcome::Refused);
-    };
-    let Ok(names) = NameList::read(sheet.list.as_slice()) else {
-        return Ok(Outcome::Refused);
-    };
-    let Some(code) = code::compiled(rt, &names, text, &sheet)? else {
-        return Ok(Outcome::Refused);
-    };
+pub(crate) fn write(rt: &HostRuntime, list: &str, text: &str, path: &str) -> Result<(), Failure> {
+    let sheet = Sheet::read(rt, list, text)?;
+    let names = sheet.names(rt, list)?;
+    let code = Code::of(rt, &names, text, &sheet)?;
     let mut bytes = vec![in rt.alloc(); 0u8; MOST_BYTES]?;
     match laid(
         bytes.as_mut_slice(),
@@ -31,10 +28,7 @@ pub(crate) fn write(rt: &HostRuntime, list: &str, text: &str, path: &str) -> io:
             bytes.truncate(length);
             save(rt, path, bytes.as_slice(), code.instructions.len())
         }
-        Err(fault) => {
-            eprintln!(rt; "rulesheet: {path}: {fault}")?;
-            Ok(Outcome::Refused)
-        }
+        Err(fault) => Err(Failure::new(rt, format_args!("{path}: {fault}"))),
     }
 }
 
@@ -45,75 +39,63 @@ fn laid(
     instructions: &[Instruction],
     places: &[u16],
 ) -> Result<usize, Fault> {
-    let next = match Begin::new().instructions(bytes, points, instructions) {
-        Ok(next) => next,
-        Err((_, fault)) => return Err(fault),
-    };
-    match next.places(bytes, places) {
-        Ok(written) => Ok(written.length),
-        Err((_, fault)) => Err(fault),
-    }
+    let next = Begin::new()
+        .instructions(bytes, points, instructions)
+        .map_err(|(_, fault)| fault)?;
+    let written = next.places(bytes, places).map_err(|(_, fault)| fault)?;
+    Ok(written.length)
 }
 
-fn save(rt: &HostRuntime, path: &str, bytes: &[u8], count: usize) -> io::Result<Outcome> {
+fn save(rt: &HostRuntime, path: &str, bytes: &[u8], count: usize) -> Result<(), Failure> {
     if let Err(e) = fs::write(rt, path, bytes) {
-        eprintln!(rt; "rulesheet: cannot write {path}: {e}")?;
-        return Ok(Outcome::Refused);
+        return Err(Failure::new(rt, format_args!("cannot write {path}: {e}")));
     }
     let length = bytes.len();
     println!(rt; "{path}: {count} instructions, {length} bytes")?;
-    Ok(Outcome::Done)
+    Ok(())
 }
 
 // The words after FILE are none, or `--names` and a list.
-pub(crate) fn list(rt: &HostRuntime, path: &str, words: &[String]) -> io::Result<Outcome> {
+pub(crate) fn list(rt: &HostRuntime, path: &str, words: &[String]) -> Result<(), Failure> {
     match words {
         [] => show(rt, path, None),
         [flag, list] if flag.as_str() == "--names" => {
-            let Some(text) = input::file(rt, list.as_str())? else {
-                return Ok(Outcome::Refused);
-            };
-            match NameList::read(text.as_slice()) {
-                Ok(names) => show(rt, path, Some(names)),
-                Err(_) => {
-                    input::explain_list(rt, list.as_str(), text.as_slice())?;
-                    Ok(Outcome::Refused)
-                }
-            }
+            let text = input::file(rt, list.as_str())?;
+            let names = input::name_list(rt, list.as_str(), text.as_slice())?;
+            show(rt, path, Some(names))
         }
-        _ => {
-            eprintln!(rt; "rulesheet: list takes a file, and --names with a name list after it")?;
-            Ok(Outcome::Refused)
-        }
+        _ => Err(Failure::new(
+            rt,
+            "list takes a file, and --names with a name list after it",
+        )),
     }
 }
 
-fn show(rt: &HostRuntime, path: &str, names: Option<NameList>) -> io::Result<Outcome> {
-    let Some(bytes) = input::file(rt, path)? else {
-        return Ok(Outcome::Refused);
-    };
+fn show(rt: &HostRuntime, path: &str, names: Option<NameList>) -> Result<(), Failure> {
+    let bytes = input::file(rt, path)?;
     match StationFile::read(bytes.as_slice()) {
         Ok(file) => {
             let points = file.points();
             let count = file.instructions().len();
             println!(rt; "{points} points, {count} instructions")?;
-            print_code(rt, names, file.instructions(), file.places())?;
-            Ok(Outcome::Done)
+            print_code(rt, names, file.instructions(), file.places())
         }
-        Err(fault) => {
-            eprintln!(rt; "rulesheet: {path}: {fault}")?;
-            what_stands(rt, bytes.as_slice(), fault)?;
-            Ok(Outcome::Refused)
-        }
+        Err(fault) => Err(refused(rt, path, bytes.as_slice(), fault)),
     }
 }
 
-// The byte at a refused position.
-fn what_stands(rt: &HostRuntime, bytes: &[u8], fault: Fault) -> io::Result<()> {
+// A refused file, and the byte at the refused position.
+fn refused(rt: &HostRuntime, path: &str, bytes: &[u8], fault: Fault) -> Failure {
     let length = bytes.len();
     let at = usize::try_from(fault.figure).unwrap_or(length);
     match bytes.get(at) {
-        Some(byte) => eprintln!(rt; "byte {at} of {length} is {byte}"),
-        None => eprintln!(rt; "the file ends at byte {length}"),
+        Some(byte) => Failure::new(
+            rt,
+            format_args!("{path}: {fault}\nbyte {at} of {length} is {byte}"),
+        ),
+        None => Failure::new(
+            rt,
+            format_args!("{path}: {fault}\nthe file ends at byte {length}"),
+        ),
     }
 }

@@ -3,14 +3,16 @@
 
 mod check;
 mod code;
+mod failure;
 mod filing;
 mod input;
 mod listing;
 mod naming;
 mod screening;
 
+use crate::failure::Failure;
+use std::env;
 use std::process::ExitCode;
-use std::{env, io};
 use tasks::{SheetTask, Task};
 
 const HELP: &str = "rulesheet: rule sheets for docking stations
@@ -37,83 +39,76 @@ A refusal goes to standard error, and the program ends with status 1.";
 
 const VERSION: &str = "rulesheet 0.1.0";
 
-// How a task ended. What was refused has been said by then.
-#[derive(Clone, Copy)]
-pub enum Outcome {
-    Done,
-    Refused,
-}
-
-// Not a `Result`: an error that `main` returned would be printed too, below what was said of the refusal.
 fn main(rt: HostRuntime) -> ExitCode {
     match run(&rt) {
-        Ok(Outcome::Done) => ExitCode::SUCCESS,
-        Ok(Outcome::Refused) => ExitCode::FAILURE,
-        Err(e) => {
-            let _ = eprintln!(rt; "rulesheet: {e}");
+        Ok(()) => ExitCode::SUCCESS,
+        Err(failure) => {
+            let _ = eprintln!(rt; "rulesheet: {failure}");
             ExitCode::FAILURE
         }
     }
 }
 
-fn run(rt: &HostRuntime) -> io::Result<Outcome> {
+fn run(rt: &HostRuntime) -> Result<(), Failure> {
     let words: Vec<String> = env::args(rt)?.collect(rt.alloc())?;
-    let Some(word) = words.get(1) else {
+    let [_, word, operands @ ..] = words.as_slice() else {
         println!(rt; "{HELP}")?;
-        return Ok(Outcome::Done);
+        return Ok(());
     };
-    let given = words.len() - 2;
     if let Some(task) = SheetTask::named(word.as_str()) {
-        if task.takes(given) {
-            return on_sheet(rt, task, words.as_slice());
+        if task.takes(operands.len()) {
+            return on_sheet(rt, task, operands);
         }
-        eprintln!(rt; "rulesheet: {word} takes another number of words; see rulesheet --help")?;
-        return Ok(Outcome::Refused);
+        return Err(Failure::new(
+            rt,
+            format_args!("{word} takes another number of words; see rulesheet --help"),
+        ));
     }
     let Some(task) = Task::named(word.as_str()) else {
-        eprintln!(rt; "rulesheet: {word} is no task; rulesheet --help lists the tasks")?;
-        return Ok(Outcome::Refused);
+        return Err(Failure::new(
+            rt,
+            format_args!("{word} is no task; rulesheet --help lists the tasks"),
+        ));
     };
     let wanted = task.operands();
+    let given = operands.len();
     if given != wanted {
-        eprintln!(rt;
-            "rulesheet: {word} takes {wanted} words after it, and {given} stand there; see rulesheet --help"
-        )?;
-        return Ok(Outcome::Refused);
+        return Err(Failure::new(
+            rt,
+            format_args!(
+                "{word} takes {wanted} words after it, and {given} stand there; see rulesheet --help"
+            ),
+        ));
     }
-    perform(rt, task, words.as_slice())
+    perform(rt, task, operands)
 }
 
-// The words are the program's own name, the task's, and as many as the task takes.
-fn perform(rt: &HostRuntime, task: Task, words: &[String]) -> io::Result<Outcome> {
-    match (task, words) {
-        (Task::Names, [_, _, path]) => return naming::names(rt, path.as_str()),
-        (Task::Version, _) => println!(rt; "{VERSION}")?,
-        _ => println!(rt; "{HELP}")?,
+// As many words as the task takes.
+fn perform(rt: &HostRuntime, task: Task, operands: &[String]) -> Result<(), Failure> {
+    match (task, operands) {
+        (Task::Names, [path]) => naming::names(rt, path.as_str()),
+        (Task::Version, _) => Ok(println!(rt; "{VERSION}")?),
+        _ => Ok(println!(rt; "{HELP}")?),
     }
-    Ok(Outcome::Done)
 }
 
 // The same for a task on a sheet or its code.
-fn on_sheet(rt: &HostRuntime, task: SheetTask, words: &[String]) -> io::Result<Outcome> {
-    match (task, words) {
-        (SheetTask::Check, [_, _, words @ ..]) => check::check(rt, words),
-        (SheetTask::Compile, [_, _, list, sheet, file]) => filing::write(
+fn on_sheet(rt: &HostRuntime, task: SheetTask, operands: &[String]) -> Result<(), Failure> {
+    match (task, operands) {
+        (SheetTask::Check, words) => check::check(rt, words),
+        (SheetTask::Compile, [list, sheet, file]) => filing::write(
             rt,
             list.as_str(),
             sheet.as_str(),
             file.as_str(),
         ),
-        (SheetTask::List, [_, _, file, words @ ..]) => filing::list(rt, file.as_str(), words),
-        (SheetTask::Screen, [_, _, list, sheet, settings @ ..]) => screening::work_out(
+        (SheetTask::List, [file, words @ ..]) => filing::list(rt, file.as_str(), words),
+        (SheetTask::Screen, [list, sheet, settings @ ..]) => screening::work_out(
             rt,
             list.as_str(),
             sheet.as_str(),
             settings,
         ),
-        _ => {
-            println!(rt; "{HELP}")?;
-            Ok(Outcome::Done)
-        }
+        _ => Ok(println!(rt; "{HELP}")?),
     }
 }

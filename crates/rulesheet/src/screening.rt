@@ -1,10 +1,10 @@
 // `rulesheet screen NAMES SHEET [NAME=NUMBER ...] [--allowance N]`
+use crate::failure::Failure;
+use crate::input::Sheet;
 use crate::listing::name_of;
-use crate::{Outcome, input};
 use excerpts::line_at;
 use names::NameList;
 use screen::Answer;
-use std::io;
 
 // How many steps a sheet may cost where nobody says it.
 const ALLOWANCE: u32 = 1_000_000;
@@ -15,41 +15,32 @@ pub(crate) fn work_out(
     list: &str,
     text: &str,
     settings: &[String],
-) -> io::Result<Outcome> {
-    let Some(sheet) = input::read_sheet(rt, list, text)? else {
-        return Ok(Outcome::Refused);
-    };
-    let Ok(names) = NameList::read(sheet.list.as_slice()) else {
-        return Ok(Outcome::Refused);
-    };
+) -> Result<(), Failure> {
+    let sheet = Sheet::read(rt, list, text)?;
+    let names = sheet.names(rt, list)?;
     let mut before = vec![in rt.alloc(); 0i32; names.count()]?;
-    let Some(allowance) = settle(rt, &names, settings, before.as_mut_slice())? else {
-        return Ok(Outcome::Refused);
-    };
+    let allowance = settle(rt, &names, settings, before.as_mut_slice())?;
     let mut after = before.as_slice().to_vec(rt.alloc())?;
     match screen::work_out(sheet.rows.as_slice(), after.as_mut_slice(), allowance) {
         Ok(outcome) => {
             print_answer(rt, sheet.text.as_slice(), outcome.answer, outcome.cost)?;
-            print_points(rt, &names, before.as_slice(), after.as_slice())?;
-            Ok(Outcome::Done)
+            print_points(rt, &names, before.as_slice(), after.as_slice())
         }
-        Err(fault) => {
-            eprintln!(rt; "rulesheet: {text}: {fault}")?;
-            Ok(Outcome::Refused)
-        }
+        Err(fault) => Err(Failure::new(rt, format_args!("{text}: {fault}"))),
     }
 }
 
-fn print_answer(rt: &HostRuntime, text: &[u8], answer: Answer, cost: u32) -> io::Result<()> {
+fn print_answer(rt: &HostRuntime, text: &[u8], answer: Answer, cost: u32) -> Result<(), Failure> {
     match answer {
-        Answer::Ended => println!(rt; "ended, {cost} steps"),
+        Answer::Ended => println!(rt; "ended, {cost} steps")?,
         Answer::Stopped(fault) => {
             println!(rt; "stopped, {cost} steps")?;
             println!(rt; "{fault}")?;
             let line = line_at(text, usize::try_from(fault.figure).unwrap_or(0));
-            println!(rt; "{line}")
+            println!(rt; "{line}")?;
         }
     }
+    Ok(())
 }
 
 // Every point before and after.
@@ -58,7 +49,7 @@ fn print_points(
     names: &NameList,
     before: &[i32],
     after: &[i32],
-) -> io::Result<()> {
+) -> Result<(), Failure> {
     println!(rt; "point  name              before       after")?;
     for (point, (old, new)) in before.iter().zip(after).enumerate() {
         let name = name_of(names, point);
@@ -67,48 +58,37 @@ fn print_points(
     Ok(())
 }
 
-// Sets the points that the words name, and tells the allowance. None where a word is wrong: then it has been said why.
+// Sets the points that the words name, and tells the allowance.
 fn settle(
     rt: &HostRuntime,
     names: &NameList,
     words: &[String],
     points: &mut [i32],
-) -> io::Result<Option<u32>> {
+) -> Result<u32, Failure> {
     let mut allowance = ALLOWANCE;
-    let mut is_allowance = false;
-    for word in words {
-        if is_allowance {
-            let Some(steps) = allowance_of(rt, word.as_str())? else {
-                return Ok(None);
+    let mut rest = words;
+    while let [word, after @ ..] = rest {
+        if word.as_str() == "--allowance" {
+            let [steps, behind @ ..] = after else {
+                return Err(Failure::new(rt, "a number is to follow --allowance"));
             };
-            allowance = steps;
-            is_allowance = false;
-        } else if is_flag(word.as_str()) {
-            is_allowance = true;
-        } else if !set_point(rt, names, word.as_str(), points)? {
-            return Ok(None);
+            allowance = allowance_of(rt, steps.as_str())?;
+            rest = behind;
+        } else {
+            set_point(rt, names, word.as_str(), points)?;
+            rest = after;
         }
     }
-    if is_allowance {
-        eprintln!(rt; "rulesheet: a number is to follow --allowance")?;
-        return Ok(None);
-    }
-    Ok(Some(allowance))
+    Ok(allowance)
 }
 
-fn is_flag(word: &str) -> bool {
-    word == "--allowance"
-}
-
-fn allowance_of(rt: &HostRuntime, word: &str) -> io::Result<Option<u32>> {
+fn allowance_of(rt: &HostRuntime, word: &str) -> Result<u32, Failure> {
     match word.parse::<u32>() {
-        Ok(steps) => Ok(Some(steps)),
-        Err(_) => {
-            eprintln!(rt;
-                "rulesheet: {word} is no allowance; it is a number from 0 to 4294967295"
-            )?;
-            Ok(None)
-        }
+        Ok(steps) => Ok(steps),
+        Err(_) => Err(Failure::new(
+            rt,
+            format_args!("{word} is no allowance; it is a number from 0 to 4294967295"),
+        )),
     }
 }
 
@@ -118,21 +98,18 @@ fn set_point(
     names: &NameList,
     word: &str,
     points: &mut [i32],
-) -> io::Result<bool> {
+) -> Result<(), Failure> {
     let Some((name, number)) = word.split_once('=') else {
-        eprintln!(rt; "rulesheet: {word} is not of the form NAME=NUMBER")?;
-        return Ok(false);
+        return Err(Failure::new(rt, format_args!("{word} is not of the form NAME=NUMBER")));
     };
     let Some(point) = names.point(name.as_bytes()) else {
-        eprintln!(rt; "rulesheet: {name} is not in the name list")?;
-        return Ok(false);
+        return Err(Failure::new(rt, format_args!("{name} is not in the name list")));
     };
-    let Ok(number) = number.parse::<i32>() else {
-        eprintln!(rt; "rulesheet: {number} is no signed 32-bit number")?;
-        return Ok(false);
+    let Ok(value) = number.parse::<i32>() else {
+        return Err(Failure::new(rt, format_args!("{number} is no signed 32-bit number")));
     };
-    if point < points.len() {
-        points[point] = number;
+    if let Some(slot) = points.get_mut(point) {
+        *slot = value;
     }
-    Ok(true)
+    Ok(())
 }
