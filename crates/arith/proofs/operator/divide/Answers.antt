@@ -1,13 +1,7 @@
-use Rattle.std.proofs.Common.{◌≡◌, ℕ, zero, suc, ◌/◌, false, ℤ, pos, negsuc, neg_ℤ, sym, refl, ap, ◌∙◌, arith, w32, SFits, to_z, of_z, rules}
+use Rattle.std.proofs.Common.{◌≡◌, ℕ, suc, ◌/◌, ℤ, pos, negsuc, neg_ℤ, sym, ap, ◌∙◌, arith, w32, SFits, to_z, of_z, rules}
 use lib.Signed.{quot_z}
-use Rattle.std.proofs.lemmas.Int.{wraps, to_z-of_z, int_wrap_fits}
-use Rattle.arith.specs.Operators.{is_zero}
+use Rattle.std.proofs.lemmas.Int.{wraps, to_z-of_z}
 use Rattle.arith.proofs.operator.divide.Goals as goal
-
-not-zero : (y : ℤ) → (of_z w32 y ≡ 0 → ⊥) → is_zero y ≡ false
-not-zero (pos zero) h = absurd (h refl)
-not-zero (pos (suc n)) h = refl
-not-zero (negsuc n) h = refl
 
 by_one : (a : ℕ) → a / 1 ≡ a
 by_one a = omega arith
@@ -23,14 +17,3 @@ pub returns-then-right-eqminus1 : goal.returns-then-right-eqminus1
 returns-then-right-eqminus1 c =
     let y = is-minus-one c.args.right c.ranges.right c.if-right-eqminus1.true in
     rw (y, quot-minus-one c.args.left) (search (rules, wraps))
-
-pub returns-else-right-eqminus1 : goal.returns-else-right-eqminus1
-returns-else-right-eqminus1 c =
-    let f : SFits w32 (quot_z c.args.left c.args.right) = search rules in
-    rw (
-      to_z-of_z w32 c.args.left c.ranges.left,
-      to_z-of_z w32 c.args.right c.ranges.right,
-      to_z-of_z w32 (quot_z c.args.left c.args.right) f,
-      not-zero c.args.right c.if-right-eq0.false,
-      int_wrap_fits w32 (quot_z c.args.left c.args.right) f,
-    )

@@ -8,6 +8,3 @@ returns-in-Add c = rw c.in-Add.is (search (rules, wraps))
 
 pub returns-in-Sub : goal.returns-in-Sub
 returns-in-Sub c = rw c.in-Sub.is (search (rules, wraps))
-
-pub returns-in-Mul : goal.returns-in-Mul
-returns-in-Mul c = rw c.in-Mul.is (search (rules, wraps))
