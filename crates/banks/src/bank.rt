@@ -47,8 +47,5 @@ pub trait Bank {
 pub(crate) fn no_point(point: usize) -> Fault
     ensures { result ≡ no_point point }
 {
-    Fault {
-        layer: Layer::Bank(BankCause::NoPoint),
-        figure: point as u64,
-    }
+    Fault::new(Layer::Bank(BankCause::NoPoint), point)
 }

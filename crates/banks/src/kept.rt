@@ -39,7 +39,8 @@ fn known(bytes: &[u8]) -> &[u8]
     bytes
 }
 
-// The number that stands in the four bytes from `at` on.
+// The number that stands in the four bytes from `at` on. Station files have a reader and a writer of numbers of their
+// own: shared, they would be public calls that have to refuse what neither crate ever asks.
 fn fetch(bytes: &[u8], at: usize) -> i32
     requires { at + 4 ≤ length bytes.now }
     ensures { result ≡ number_at bytes.now at }

@@ -63,8 +63,8 @@ impl Overlay {
         ensures one { AsOne (B.points bank.old) self.now.held (B.points bank.new) }
     {
         let count = bank.count();
-        for point in 0..count {
-            if let Some(value) = self.held[point] {
+        for (point, on_top) in self.held[..count].iter().enumerate() {
+            if let Some(value) = *on_top {
                 let _ = bank.write(point, value);
             }
         }

@@ -5,6 +5,7 @@ ghost use Rattle.banks.specs.Registers.{cleared, points_in};
 use crate::bank::{Bank, MOST_POINTS, Reading, Writing, no_point};
 use faults::Fault;
 
+// An array with a count beside, since there is no heap: a station's memory is fixed.
 #[derive(Drop)]
 pub struct Registers {
     numbers: [i32; MOST_POINTS],

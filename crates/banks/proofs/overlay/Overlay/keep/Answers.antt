@@ -1,5 +1,6 @@
-use Rattle.std.proofs.Common.{◌<◌, List, length, ℤ, Result, sym, refl, ap, ◌∙◌, subst, arith, w32, SFits, rules}
+use Rattle.std.proofs.Common.{◌<◌, None, List, length, ℤ, Result, sym, refl, ap, ◌∙◌, subst, arith, w32, SFits, rules}
 use Rattle.std.proofs.lemmas.Int.{to_z-of_z}
+use Rattle.std.proofs.lemmas.List.{get_or-take}
 use Rattle.faults.specs.declared.fault.Fault.{Fault}
 use Rattle.banks.specs.Points.{wrote}
 use Rattle.banks.specs.Laws.{Direct, AsOne}
@@ -16,15 +17,16 @@ loop-point-preserved g c =
     let xs = g.B.Bank.points c.args.bank.now in
     let n = c.args.self.now.whole in
     let h : c.loop-point.point < length c.args.self.now.held = omega arith in
+    let e = get_or-take c.count-count.result c.args.self.now.held c.loop-point.point None (omega arith) in
     let m = overlaid-more xs c.args.self.now.held c.loop-point.point h in
-    elim c.match-self-point.branch [
+    elim c.match-on_top.branch [
       | in-Some w ↦
           let v = w.in-Some.value in
           let f : SFits w32 v = search rules in (
             ap g.B.Bank.points w.bank-is
                 ∙ ap (λ (t : Result ℤ Fault × List ℤ). t.1) w.write.ensures.value
                 ∙ ap (λ (x : ℤ). (wrote (g.B.Bank.points c.loop-point.bank) c.loop-point.point x).1) (to_z-of_z w32 v f)
-                ∙ one-down _ xs c.args.self.now.held c.loop-point.point v h c.loop-point.invariant.0 w.in-Some.is,
+                ∙ one-down _ xs c.args.self.now.held c.loop-point.point v h c.loop-point.invariant.0 (sym e ∙ w.in-Some.is),
             grind arith,
           )
       | in_default w ↦ (grind arith, grind arith)
