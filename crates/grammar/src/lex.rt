@@ -2,12 +2,12 @@
 ghost use Rattle.std.specs.Prelude.{◌≡◌};
 ghost use Rattle.std.specs.Str.{bytes_eq};
 ghost use Rattle.names.specs.Lines.{lines_of};
-ghost use Rattle.grammar.specs.Lexemes.{numeral, number_lexeme, word_lexeme, comparison_signed, sign_lexeme, lexeme_of};
+ghost use Rattle.grammar.specs.Lexemes.{numeral, number_lexeme, word_lexeme, sign_lexeme, lexeme_of};
 
 use crate::lexeme::Lexeme;
-use arith::{Comparison, Operator};
+use arith::Operator;
 use names::NameList;
-use scanner::{ComparisonSign, Kind, Symbol, Token};
+use scanner::{Kind, Symbol, Token};
 
 const LARGEST_NUMBER: u64 = 2_147_483_647;
 
@@ -77,20 +77,7 @@ fn sign_lexeme(symbol: Symbol) -> Lexeme
         Symbol::Not => Lexeme::Not,
         Symbol::And => Lexeme::And,
         Symbol::Or => Lexeme::Or,
-        Symbol::Compare(sign) => Lexeme::Compare(comparison_signed(sign)),
-    }
-}
-
-fn comparison_signed(sign: ComparisonSign) -> Comparison
-    ensures { result ≡ comparison_signed sign }
-{
-    match sign {
-        ComparisonSign::Less => Comparison::Less,
-        ComparisonSign::LessOrEqual => Comparison::LessOrEqual,
-        ComparisonSign::Greater => Comparison::Greater,
-        ComparisonSign::GreaterOrEqual => Comparison::GreaterOrEqual,
-        ComparisonSign::Equal => Comparison::Equal,
-        ComparisonSign::NotEqual => Comparison::NotEqual,
+        Symbol::Compare(comparison) => Lexeme::Compare(comparison),
     }
 }
 

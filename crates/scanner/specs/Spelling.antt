@@ -6,15 +6,15 @@ use Rattle.std.specs.Char.{is_ascii_digit}
 use Rattle.std.specs.List.{AllByRecursion}
 use Rattle.scanner.specs.Words.{is_word}
 use Rattle.scanner.specs.Tokens.{is_blank}
-use Rattle.scanner.specs.declared.token.ComparisonSign.{ComparisonSign}
-use Rattle.scanner.specs.declared.token.ComparisonSign.TheVariants.{Less, LessOrEqual, Greater, GreaterOrEqual, Equal, NotEqual}
+use Rattle.arith.specs.declared.comparison.Comparison.{Comparison}
+use Rattle.arith.specs.declared.comparison.Comparison.TheVariants.{Less, LessOrEqual, Greater, GreaterOrEqual, Equal, NotEqual}
 use Rattle.scanner.specs.declared.token.Symbol.{Symbol}
 use Rattle.scanner.specs.declared.token.Symbol.TheVariants.{OpenBlock, CloseBlock, Open, Close, Semicolon, Becomes, Plus, Minus, Times, Over, Not, And, Or, Compare}
 use Rattle.scanner.specs.declared.token.Kind.{Kind}
 use Rattle.scanner.specs.declared.token.Kind.TheVariants.{Word, Number, Sign, End, Stray}
 use Rattle.scanner.specs.declared.token.Token.{Token}
 
-abbrev pub comparison_spelling : ComparisonSign → List ℕ
+abbrev pub comparison_spelling : Comparison → List ℕ
 comparison_spelling Less = codes "<"
 comparison_spelling LessOrEqual = codes "<="
 comparison_spelling Greater = codes ">"

@@ -4,8 +4,9 @@ ghost use Rattle.scanner.specs.Tokens.{token_at, Placed, standing, sign_standing
 ghost use Rattle.scanner.specs.Spelling.{Found};
 
 use crate::run::{Class, run_end};
-use crate::token::{ComparisonSign, Kind, Symbol, Token};
+use crate::token::{Kind, Symbol, Token};
 use crate::word::begins_word;
+use arith::Comparison;
 
 // The first token at `at` or after it. At the end, and past it, that is `Kind::End`.
 pub fn token_at(text: &[u8], at: usize) -> Token
@@ -82,10 +83,10 @@ fn pair_sign(b: u8, c: u8) -> Option<Symbol>
     ensures { result ≡ pair_sign b c }
 {
     match (b, c) {
-        (b'<', b'=') => Some(Symbol::Compare(ComparisonSign::LessOrEqual)),
-        (b'>', b'=') => Some(Symbol::Compare(ComparisonSign::GreaterOrEqual)),
-        (b'=', b'=') => Some(Symbol::Compare(ComparisonSign::Equal)),
-        (b'!', b'=') => Some(Symbol::Compare(ComparisonSign::NotEqual)),
+        (b'<', b'=') => Some(Symbol::Compare(Comparison::LessOrEqual)),
+        (b'>', b'=') => Some(Symbol::Compare(Comparison::GreaterOrEqual)),
+        (b'=', b'=') => Some(Symbol::Compare(Comparison::Equal)),
+        (b'!', b'=') => Some(Symbol::Compare(Comparison::NotEqual)),
         (b'&', b'&') => Some(Symbol::And),
         (b'|', b'|') => Some(Symbol::Or),
         _ => None,
@@ -107,8 +108,8 @@ fn single_sign(b: u8) -> Kind
         b'*' => Kind::Sign(Symbol::Times),
         b'/' => Kind::Sign(Symbol::Over),
         b'!' => Kind::Sign(Symbol::Not),
-        b'<' => Kind::Sign(Symbol::Compare(ComparisonSign::Less)),
-        b'>' => Kind::Sign(Symbol::Compare(ComparisonSign::Greater)),
+        b'<' => Kind::Sign(Symbol::Compare(Comparison::Less)),
+        b'>' => Kind::Sign(Symbol::Compare(Comparison::Greater)),
         _ => Kind::Stray,
     }
 }

@@ -2,15 +2,7 @@
 ghost use Rattle.std.specs.Prelude.{◌≡◌, min, length};
 ghost use Rattle.scanner.specs.Tokens.{spelled};
 
-#[derive(Clone, Copy, PartialEq, Eq, Debug)]
-pub enum ComparisonSign {
-    Less,
-    LessOrEqual,
-    Greater,
-    GreaterOrEqual,
-    Equal,
-    NotEqual,
-}
+use arith::Comparison;
 
 // Which sign it is.
 #[derive(Clone, Copy, PartialEq, Eq, Debug)]
@@ -28,7 +20,7 @@ pub enum Symbol {
     Not,
     And,
     Or,
-    Compare(ComparisonSign),
+    Compare(Comparison),
 }
 
 #[derive(Clone, Copy, PartialEq, Eq, Debug)]
