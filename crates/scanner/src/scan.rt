@@ -3,9 +3,9 @@ ghost use Rattle.std.specs.Prelude.{◌≡◌, ◌<◌, length, drop};
 ghost use Rattle.scanner.specs.Tokens.{token_at, Placed, standing, sign_standing, pair_front, pair_sign, single_sign};
 ghost use Rattle.scanner.specs.Spelling.{Found};
 
-use crate::run::{Class, run_end};
+use crate::run::{is_blank, run_end};
 use crate::token::{Kind, Symbol, Token};
-use crate::word::begins_word;
+use crate::word::{begins_word, goes_on};
 use arith::Comparison;
 
 // The first token at `at` or after it. At the end, and past it, that is `Kind::End`.
@@ -14,7 +14,7 @@ pub fn token_at(text: &[u8], at: usize) -> Token
     ensures placed { Placed text.now at result }
     ensures found { Found text.now at result }
 {
-    let start = run_end(text, at, Class::Blank);
+    let start = run_end(text, at, is_blank);
     if start < text.len() {
         token_from(text, start)
     } else {
@@ -36,13 +36,13 @@ fn token_from(text: &[u8], start: usize) -> Token
         Token {
             kind: Kind::Number,
             start,
-            end: run_end(text, start + 1, Class::Digit),
+            end: run_end(text, start + 1, |b| b.is_ascii_digit()),
         }
     } else if begins_word(b) {
         Token {
             kind: Kind::Word,
             start,
-            end: run_end(text, start + 1, Class::InWord),
+            end: run_end(text, start + 1, goes_on),
         }
     } else {
         sign_from(text, start)

@@ -1,6 +1,6 @@
 use Rattle.std.proofs.Common.{◌≡◌, ℕ, List, drop, sym, ap, ◌∙◌, subst}
 use Rattle.std.proofs.lemmas.List.{at_drop_all}
-use Rattle.scanner.specs.Tokens.{standing, token_at, Placed}
+use Rattle.scanner.specs.Tokens.{is_blank, standing, token_at, Placed}
 use Rattle.scanner.specs.Spelling.{Found}
 use Rattle.scanner.specs.declared.token.Token.{Token}
 use Rattle.scanner.proofs.NextToken.{begin, found, found-is, found-placed}
@@ -19,11 +19,11 @@ told text at t e = (
 
 pub returns-then-start-text : goal.returns-then-start-text
 returns-then-start-text c =
-    let w = told c.args.text.now c.args.at _ (is_found _ _ _ _ c.run_end-start.ensures c.token_from.ensures) in
+    let w = told c.args.text.now c.args.at _ (is_found _ _ _ _ (c.run_end-start.ensures is_blank (λ b r e. e)) c.token_from.ensures) in
     record { value = w.0; placed = w.1; found = w.2 }
 
 pub returns-else-start-text : goal.returns-else-start-text
 returns-else-start-text c =
     let s = c.run_end-start.result in
-    let w = told c.args.text.now c.args.at _ (is_found _ _ _ _ c.run_end-start.ensures (sym (at_drop_all (standing s) c.args.text.now s c.if-start-text.false))) in
+    let w = told c.args.text.now c.args.at _ (is_found _ _ _ _ (c.run_end-start.ensures is_blank (λ b r e. e)) (sym (at_drop_all (standing s) c.args.text.now s c.if-start-text.false))) in
     record { value = w.0; placed = w.1; found = w.2 }
