@@ -3,7 +3,7 @@
 -- scanner finds just these tokens is a law on its contract.
 use Rattle.std.specs.Prelude.{◌≡◌, ℕ, ◌-◌, ◌≤◌, Bool, true, false, ◌&&◌, List, [], ◌∷◌, length, take, drop, codes}
 use Rattle.std.specs.Char.{is_ascii_digit}
-use Rattle.std.specs.List.{AllByRecursion}
+use Rattle.std.specs.List.{AllByRecursion, list_all}
 use Rattle.scanner.specs.Words.{is_word}
 use Rattle.scanner.specs.Tokens.{is_blank}
 use Rattle.arith.specs.declared.comparison.Comparison.{Comparison}
@@ -39,8 +39,7 @@ spelling Or = codes "||"
 spelling (Compare c) = comparison_spelling c
 
 abbrev pub all_digits : List ℕ → Bool
-all_digits [] = true
-all_digits (b ∷ bs) = is_ascii_digit b && all_digits bs
+all_digits bs = list_all is_ascii_digit bs
 
 abbrev pub is_number : List ℕ → Bool
 is_number [] = false

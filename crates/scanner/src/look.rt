@@ -1,8 +1,7 @@
 // The look ahead: whether the bracket just read opens a condition.
 ghost use Rattle.std.specs.Prelude.{◌≡◌};
-ghost use Rattle.std.specs.Str.{bytes_eq};
 ghost use Rattle.scanner.specs.Cursors.{held, look_held, LookLaw};
-ghost use Rattle.scanner.specs.Looks.{is_truth, symbol_sight, sight_of};
+ghost use Rattle.scanner.specs.Looks.{symbol_sight, sight_of};
 
 use crate::cursor::Cursor;
 use crate::position::Position;
@@ -76,29 +75,14 @@ fn sight_of(text: &[u8], token: Token) -> Sight
     ensures { result ≡ sight_of text.now token }
 {
     match token.kind {
-        Kind::Word => {
-            if is_truth(token.bytes(text)) {
-                Sight::Clue
-            } else {
-                Sight::Passes
-            }
-        }
+        Kind::Word => match token.bytes(text) {
+            b"true" | b"false" => Sight::Clue,
+            _ => Sight::Passes,
+        },
         Kind::Number => Sight::Passes,
         Kind::Sign(symbol) => symbol_sight(symbol),
         Kind::End | Kind::Stray => Sight::Stops,
     }
-}
-
-fn is_truth(word: &[u8]) -> bool
-    ensures { result ≡ is_truth word.now }
-{
-    same(word, b"true") || same(word, b"false")
-}
-
-fn same(left: &[u8], right: &[u8]) -> bool
-    ensures { result ≡ bytes_eq left.now right.now }
-{
-    left == right
 }
 
 fn symbol_sight(symbol: Symbol) -> Sight
