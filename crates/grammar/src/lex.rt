@@ -1,6 +1,5 @@
 // From tokens to lexemes, under a name list.
 ghost use Rattle.std.specs.Prelude.{◌≡◌};
-ghost use Rattle.std.specs.Str.{bytes_eq};
 ghost use Rattle.names.specs.Lines.{lines_of};
 ghost use Rattle.grammar.specs.Lexemes.{numeral, number_lexeme, word_lexeme, sign_lexeme, lexeme_of};
 
@@ -28,21 +27,16 @@ pub fn lexeme_of(names: &NameList, text: &[u8], token: Token) -> Lexeme
 fn word_lexeme(names: &NameList, word: &[u8]) -> Lexeme
     ensures { result ≡ word_lexeme (lines_of names.now.text.now) word.now }
 {
-    if same(word, b"if") {
-        Lexeme::If
-    } else if same(word, b"else") {
-        Lexeme::Else
-    } else if same(word, b"while") {
-        Lexeme::While
-    } else if same(word, b"true") {
-        Lexeme::Truth(true)
-    } else if same(word, b"false") {
-        Lexeme::Truth(false)
-    } else {
-        match names.point(word) {
+    match word {
+        b"if" => Lexeme::If,
+        b"else" => Lexeme::Else,
+        b"while" => Lexeme::While,
+        b"true" => Lexeme::Truth(true),
+        b"false" => Lexeme::Truth(false),
+        _ => match names.point(word) {
             Some(point) => Lexeme::Name(point),
             None => Lexeme::Unlisted,
-        }
+        },
     }
 }
 
@@ -79,10 +73,4 @@ fn sign_lexeme(symbol: Symbol) -> Lexeme
         Symbol::Or => Lexeme::Or,
         Symbol::Compare(comparison) => Lexeme::Compare(comparison),
     }
-}
-
-fn same(left: &[u8], right: &[u8]) -> bool
-    ensures { result ≡ bytes_eq left.now right.now }
-{
-    left == right
 }
