@@ -2,14 +2,12 @@
 -- reader of tokens goes by.
 use Rattle.std.proofs.Common.{◌≡◌, ℕ, zero, suc, ◌+◌, ◌-◌, ◌≤◌, Bool, true, false, List, [], ◌∷◌, length, drop, Some, None, Option, sym, refl, ap, ◌∙◌, subst, arith}
 use Rattle.std.proofs.lemmas.List.{drop-drop, length-drop}
-use Rattle.std.proofs.lemmas.Bool.{cond_both}
-use Rattle.std.specs.Char.{is_ascii_digit}
-use Rattle.scanner.specs.Words.{begins_word, goes_on}
+use Rattle.std.proofs.lemmas.List.Sums.{prefix_len-le-length}
 use Rattle.scanner.specs.Tokens.{is_blank, run_of, after, front, sign_front, sign_or, pair_sign, single_sign, standing, tell, tokens_from, tokens_at, token_at, first_of, Placed}
 use Rattle.scanner.specs.declared.token.Symbol.{Symbol}
 use Rattle.scanner.specs.declared.token.Kind.{Kind}
 use Rattle.scanner.specs.declared.token.Token.{Token}
-use Rattle.scanner.proofs.RunSteps.{run_on, run-off, run_fits, run-whole}
+use Rattle.scanner.proofs.RunSteps.{run_on, run-off, run-whole}
 
 -- blanks at the front are passed over
 blanks : (bs : List ℕ) (p : ℕ) → tokens_from bs 0 p ≡ tokens_from (drop (run_of is_blank bs) bs) 0 (p + run_of is_blank bs)
@@ -47,10 +45,7 @@ sign-front-fits b (c ∷ bs) = let h = sign_fits (pair_sign b c) (single_sign b)
 
 -- a token stays in the text
 front_fits : (b : ℕ) (bs : List ℕ) → (front b bs).1 ≤ length bs
-front_fits b bs =
-    let P : Kind × ℕ → Type 0 = λ w. w.1 ≤ length bs in
-    cond_both (is_ascii_digit b) _ _ P (λ _. run_fits is_ascii_digit bs) (λ _.
-    cond_both (begins_word b) _ _ P (λ _. run_fits goes_on bs) (λ _. sign-front-fits b bs))
+front_fits b bs = grind (arith, prefix_len-le-length, sign-front-fits b bs)
 
 -- the token at the front of what begins with no blank, n bytes long
 at_front : (bs : List ℕ) (p n : ℕ) → run_of is_blank bs ≡ 0 → (standing p bs).end ≡ p + n → tokens_from bs 0 p ≡ standing p bs ∷ after (standing p bs).kind (tokens_from (drop n bs) 0 (p + n))
@@ -112,7 +107,7 @@ found-placed text at = by (drop s text) (length-drop s text)
 
     by : (l : List ℕ) → length l ≡ length text - s → Placed text at (standing s l)
     by [] e =
-        let f = run_fits is_blank (drop at text) in
+        let f = prefix_len-le-length is_blank (drop at text) in
         let d = length-drop at text in
         record { ahead = omega arith; forward = omega arith; within = λ h. omega arith; taken = λ h. absurd (h refl) }
     by (b ∷ bs) e =

@@ -72,11 +72,8 @@ fn pair_from(text: &[u8], start: usize) -> Option<Symbol>
     requires { start < length text.now }
     ensures { result ≡ pair_front (drop start text.now) }
 {
-    if start + 1 < text.len() {
-        pair_sign(text[start], text[start + 1])
-    } else {
-        None
-    }
+    let second = text.get(start + 1)?;
+    pair_sign(text[start], *second)
 }
 
 fn pair_sign(b: u8, c: u8) -> Option<Symbol>
