@@ -11,6 +11,9 @@ module _ (test : ℕ → Bool) where
   pub run-off : (b : ℕ) (bs : List ℕ) → test b ≡ false → run_of test (b ∷ bs) ≡ 0
   run-off b bs e = grind arith
 
+  pub run_none : (b : ℕ) (bs : List ℕ) → run_of test (b ∷ bs) ≡ 0 → test b ≡ false
+  run_none b bs h = grind (arith, run_on b bs)
+
   -- a run does not go on where it stopped
   pub run-whole : (bs : List ℕ) → run_of test (drop (run_of test bs) bs) ≡ 0
   run-whole bs =

@@ -1,8 +1,8 @@
 -- The table of signs, forward and back: what the scanner takes for a sign is spelled so, and where a sign is spelled
 -- the scanner takes one that is at least as long.
-use Rattle.std.proofs.Common.{◌≡◌, ℕ, zero, suc, ◌≤◌, true, false, ◌&&◌, eqb, List, [], ◌∷◌, length, get_or, take, Some, None, Option, sym, refl, ap, ◌∙◌, subst, arith}
+use Rattle.std.proofs.Common.{◌≡◌, ℕ, zero, suc, ◌≤◌, true, false, eqb, List, [], ◌∷◌, length, get_or, take, Some, None, Option, sym, refl, ap, ◌∙◌, subst, arith}
 use Rattle.std.proofs.lemmas.List.{length-take}
-use Rattle.std.proofs.lemmas.Bool.{and_parts, eqb-true}
+use Rattle.std.proofs.lemmas.Bool.{eqb-true}
 use Rattle.std.specs.Char.{is_ascii_digit}
 use Rattle.scanner.specs.Words.{begins_word}
 use Rattle.scanner.specs.Tokens.{pair_sign, single_sign, pair_front, sign_or, sign_front}
@@ -47,15 +47,8 @@ abbrev pub PairOk : ℕ → ℕ → Option Symbol → Type 0
 PairOk b c (Some s) = b ∷ c ∷ [] ≡ spelling s
 PairOk b c None = Unit {0}
 
-two : (b c x y : ℕ) → (eqb b x && eqb c y) ≡ true → b ∷ c ∷ [] ≡ x ∷ y ∷ []
-two b c x y e =
-    let h = and_parts (eqb b x) (eqb c y) e in
-    let p = eqb-true b x h.0 in
-    let q = eqb-true c y h.1 in
-    cc
-
 pub pair_ok : (b c : ℕ) → PairOk b c (pair_sign b c)
-pair_ok b c = grind (arith, two)
+pair_ok b c = grind arith
 
 abbrev pub SingleOk : ℕ → Kind → Type 0
 SingleOk b Word = ⊥

@@ -13,7 +13,7 @@ use Rattle.scanner.specs.Spelling.{spelling, all_digits, Spells, NoLonger, Front
 use Rattle.scanner.specs.declared.token.Symbol.{Symbol}
 use Rattle.scanner.specs.declared.token.Kind.{Kind}
 use Rattle.scanner.specs.declared.token.Kind.TheVariants.{Word, Number, Sign, End, Stray}
-use Rattle.scanner.proofs.RunSteps.{run_on, run-whole}
+use Rattle.scanner.proofs.RunSteps.{run_none, run-whole}
 use Rattle.scanner.proofs.SignSpelling.{sign-apart, pair_ok, PairOk, single-ok, SingleOk, sign-back}
 use Rattle.scanner.proofs.NextToken.{begin, found, found-is}
 
@@ -100,10 +100,6 @@ stands-longest s (b ∷ bs) =
     let e : suc (front b bs).1 ≡ suc (s + (front b bs).1) - s = omega arith in
     subst (λ (n : ℕ). Fronts (front b bs).0 n (b ∷ bs)) e (fronts b bs)
 
-no-blank : (b : ℕ) (bs : List ℕ) → run_of is_blank (b ∷ bs) ≡ 0 → is_blank b ≡ false
-no-blank b bs h =
-    elim (is_blank b) as (λ (v : Bool). is_blank b ≡ v → v ≡ false) [ true ↦ λ e. absurd (omega (arith, run_on is_blank b bs e)) | false ↦ λ e. refl ] refl
-
 starts : (s : ℕ) (l : List ℕ) → s ≡ (standing s l).start
 starts s [] = refl
 starts s (b ∷ bs) = refl
@@ -120,7 +116,7 @@ found-law text at =
     let Longest : ℕ → Type 0 = λ m. Fronts (found text at).kind ((found text at).end - m) (drop m text) in
     record {
       blanks = subst (λ (m : ℕ). Blank (m - at)) e (subst Blank n (all-passed is_blank _ (run-all is_blank (drop at text))));
-      begins = subst Begins e (λ b bs h. no-blank b bs (sym (ap (run_of is_blank) h) ∙ off));
+      begins = subst Begins e (λ b bs h. run_none is_blank b bs (sym (ap (run_of is_blank) h) ∙ off));
       longest = subst Longest e (stands-longest s (drop s text));
     }
 
