@@ -4,10 +4,6 @@
 use Rattle.std.specs.Prelude.{ℕ, ◌+◌, ◌-◌, ◌*◌, true, false, cond, List, [], ◌∷◌, pos, Some, None, codes, Option, nat_le}
 use Rattle.std.specs.Str.{bytes_eq}
 use Rattle.arith.specs.declared.operator.Operator.TheVariants as operator
-use Rattle.arith.specs.declared.comparison.Comparison.{Comparison}
-use Rattle.arith.specs.declared.comparison.Comparison.TheVariants as comparison
-use Rattle.scanner.specs.declared.token.ComparisonSign.{ComparisonSign}
-use Rattle.scanner.specs.declared.token.ComparisonSign.TheVariants as sign
 use Rattle.scanner.specs.declared.token.Symbol.{Symbol}
 use Rattle.scanner.specs.declared.token.Symbol.TheVariants as symbol
 use Rattle.scanner.specs.declared.token.Kind.{Kind}
@@ -42,14 +38,6 @@ word_lexeme names w =
     (cond (bytes_eq w (codes "false")) (Truth false)
     (listed (position w names))))))
 
-abbrev pub comparison_signed : ComparisonSign → Comparison
-comparison_signed sign.Less = comparison.Less
-comparison_signed sign.LessOrEqual = comparison.LessOrEqual
-comparison_signed sign.Greater = comparison.Greater
-comparison_signed sign.GreaterOrEqual = comparison.GreaterOrEqual
-comparison_signed sign.Equal = comparison.Equal
-comparison_signed sign.NotEqual = comparison.NotEqual
-
 abbrev pub sign_lexeme : Symbol → Lexeme
 sign_lexeme symbol.OpenBlock = OpenBlock
 sign_lexeme symbol.CloseBlock = CloseBlock
@@ -64,7 +52,7 @@ sign_lexeme symbol.Over = Multiplicative operator.Div
 sign_lexeme symbol.Not = Not
 sign_lexeme symbol.And = And
 sign_lexeme symbol.Or = Or
-sign_lexeme (symbol.Compare c) = Compare (comparison_signed c)
+sign_lexeme (symbol.Compare c) = Compare c
 
 abbrev pub kind_lexeme : List (List ℕ) → Kind → List ℕ → Lexeme
 kind_lexeme names kind.Word w = word_lexeme names w

@@ -1,13 +1,12 @@
 // From tokens to lexemes, under a name list.
 ghost use Rattle.std.specs.Prelude.{◌≡◌};
-ghost use Rattle.std.specs.Str.{bytes_eq};
 ghost use Rattle.names.specs.Lines.{lines_of};
-ghost use Rattle.grammar.specs.Lexemes.{numeral, number_lexeme, word_lexeme, comparison_signed, sign_lexeme, lexeme_of};
+ghost use Rattle.grammar.specs.Lexemes.{numeral, number_lexeme, word_lexeme, sign_lexeme, lexeme_of};
 
 use crate::lexeme::Lexeme;
-use arith::{Comparison, Operator};
+use arith::Operator;
 use names::NameList;
-use scanner::{ComparisonSign, Kind, Symbol, Token};
+use scanner::{Kind, Symbol, Token};
 
 const LARGEST_NUMBER: u64 = 2_147_483_647;
 
@@ -28,21 +27,16 @@ pub fn lexeme_of(names: &NameList, text: &[u8], token: Token) -> Lexeme
 fn word_lexeme(names: &NameList, word: &[u8]) -> Lexeme
     ensures { result ≡ word_lexeme (lines_of names.now.text.now) word.now }
 {
-    if same(word, b"if") {
-        Lexeme::If
-    } else if same(word, b"else") {
-        Lexeme::Else
-    } else if same(word, b"while") {
-        Lexeme::While
-    } else if same(word, b"true") {
-        Lexeme::Truth(true)
-    } else if same(word, b"false") {
-        Lexeme::Truth(false)
-    } else {
-        match names.point(word) {
+    match word {
+        b"if" => Lexeme::If,
+        b"else" => Lexeme::Else,
+        b"while" => Lexeme::While,
+        b"true" => Lexeme::Truth(true),
+        b"false" => Lexeme::Truth(false),
+        _ => match names.point(word) {
             Some(point) => Lexeme::Name(point),
             None => Lexeme::Unlisted,
-        }
+        },
     }
 }
 
@@ -77,25 +71,6 @@ fn sign_lexeme(symbol: Symbol) -> Lexeme
         Symbol::Not => Lexeme::Not,
         Symbol::And => Lexeme::And,
         Symbol::Or => Lexeme::Or,
-        Symbol::Compare(sign) => Lexeme::Compare(comparison_signed(sign)),
+        Symbol::Compare(comparison) => Lexeme::Compare(comparison),
     }
-}
-
-fn comparison_signed(sign: ComparisonSign) -> Comparison
-    ensures { result ≡ comparison_signed sign }
-{
-    match sign {
-        ComparisonSign::Less => Comparison::Less,
-        ComparisonSign::LessOrEqual => Comparison::LessOrEqual,
-        ComparisonSign::Greater => Comparison::Greater,
-        ComparisonSign::GreaterOrEqual => Comparison::GreaterOrEqual,
-        ComparisonSign::Equal => Comparison::Equal,
-        ComparisonSign::NotEqual => Comparison::NotEqual,
-    }
-}
-
-fn same(left: &[u8], right: &[u8]) -> bool
-    ensures { result ≡ bytes_eq left.now right.now }
-{
-    left == right
 }

@@ -2,12 +2,15 @@
 use Rattle.std.proofs.Common.{◌≡◌, ℕ, zero, suc, ◌+◌, ◌≤◌, Bool, true, List, [], ◌∷◌, ◌++◌, take, sym, refl, ap, ◌∙◌, arith}
 use Rattle.std.specs.List.{AllByRecursion}
 use Rattle.std.proofs.lemmas.Bool.{false≢true}
+use Rattle.scanner.specs.Tokens.{tokens_at}
+use Rattle.scanner.specs.Cursors.{Held, look_held}
 use Rattle.scanner.specs.Looks.{sight_of, seen_by, clue_ahead}
 use Rattle.scanner.specs.Clues.{opens_one, closes_one, opened, closed, ClueStands, OpensCondition}
 use Rattle.scanner.specs.declared.token.Token.{Token}
 use Rattle.scanner.specs.declared.look.Sight.{Sight}
 use Rattle.scanner.specs.declared.look.Sight.TheVariants.{Clue, Opens, Closes, Stops, Passes}
-use Rattle.scanner.proofs.LookSteps.{opens-on, closes-on, passes_on}
+use Rattle.scanner.specs.declared.position.Position.{Position}
+use Rattle.scanner.proofs.LookSteps.{opens-on, closes-on, passes_on, opens, closes, passes, clue_seen, partner_seen, stop_seen}
 
 module _ (text : List ℕ) where
   abbrev Reached : Token → Type 0
@@ -77,9 +80,16 @@ module _ (text : List ℕ) where
       by go Stops d e u = absurd (reach e)
       by go Passes d e u = at Passes d e ∙ go d (without d d t Passes before e (omega arith) u)
 
-  pub look-law : (ts : List Token) (r : Bool) → r ≡ clue_ahead text ts 0 → OpensCondition text ts r
-  look-law ts r e =
+  pub look_law : (ts : List Token) (r : Bool) → r ≡ clue_ahead text ts 0 → OpensCondition text ts r
+  look_law ts r e =
       record {
         only = λ h. stands ts 0 (sym e ∙ h);
         each = λ h. e ∙ ap (λ (us : List Token). clue_ahead text us 0) h.split ∙ finds h.before h.clue h.behind 0 h.is h.unpartnered h.tokens;
       }
+
+-- the look gives its answer, and puts the position back
+pub looked : (h : Held) (q : Position) (r : Bool) → r ≡ clue_ahead h.text (tokens_at h.text h.position.at) 0 → q ≡ h.position → (r, record { text = h.text; position = q }) ≡ look_held h
+looked h q r e p = cc
+
+-- what ends the look and what goes on with it
+pub ruleset look_steps = (opens, closes, passes, clue_seen, partner_seen, stop_seen, look_law, looked)

@@ -2,7 +2,7 @@
 use Rattle.std.proofs.Common.{◌≡◌, true, false, [], ◌∷◌, codes, refl}
 use Rattle.scanner.specs.Tokens.{token, tokens, tokens_at}
 use Rattle.scanner.specs.Looks.{clue_ahead}
-use Rattle.scanner.specs.declared.token.ComparisonSign.TheVariants.{LessOrEqual, Equal}
+use Rattle.arith.specs.declared.comparison.Comparison.TheVariants.{LessOrEqual, Equal}
 use Rattle.scanner.specs.declared.token.Symbol.TheVariants.{Becomes, Compare}
 use Rattle.scanner.specs.declared.token.Kind.TheVariants.{Word, Number, Sign, End, Stray}
 

@@ -4,5 +4,4 @@ pub mod LookSteps
 pub mod NextToken
 pub mod RunSteps
 pub mod SignSpelling
-pub mod Standing
 pub mod TokenLaws

@@ -1,45 +1,34 @@
 -- The tokens of a text, one token at a time: the next token at a place, then the tokens after it. This is all that a
 -- reader of tokens goes by.
-use Rattle.std.proofs.Common.{◌≡◌, ℕ, zero, suc, ◌+◌, ◌-◌, ◌≤◌, Bool, true, false, List, [], ◌∷◌, length, drop, Some, None, Option, sym, refl, ap, ◌∙◌, subst, arith}
+use Rattle.std.proofs.Common.{◌≡◌, ℕ, zero, suc, ◌+◌, ◌-◌, ◌≤◌, Bool, true, false, List, [], ◌∷◌, length, drop, Option, sym, refl, ap, ◌∙◌, subst, arith}
 use Rattle.std.proofs.lemmas.List.{drop-drop, length-drop}
-use Rattle.std.proofs.lemmas.Bool.{cond_both}
-use Rattle.std.specs.Char.{is_ascii_digit}
-use Rattle.scanner.specs.Words.{begins_word, goes_on}
+use Rattle.std.proofs.lemmas.List.Sums.{prefix_len-le-length}
 use Rattle.scanner.specs.Tokens.{is_blank, run_of, after, front, sign_front, sign_or, pair_sign, single_sign, standing, tell, tokens_from, tokens_at, token_at, first_of, Placed}
 use Rattle.scanner.specs.declared.token.Symbol.{Symbol}
 use Rattle.scanner.specs.declared.token.Kind.{Kind}
 use Rattle.scanner.specs.declared.token.Token.{Token}
-use Rattle.scanner.proofs.RunSteps.{run_on, run-off, run_fits, run-whole}
+use Rattle.scanner.proofs.RunSteps.{run_on, run-off, run_none, run-whole}
 
 -- blanks at the front are passed over
 blanks : (bs : List ℕ) (p : ℕ) → tokens_from bs 0 p ≡ tokens_from (drop (run_of is_blank bs) bs) 0 (p + run_of is_blank bs)
-blanks [] p = let e : p ≡ p + 0 = omega arith in ap (tokens_from [] 0) e
+blanks [] p = grind arith
 blanks (b ∷ bs) p =
     let h = blanks bs (suc p) in
-    let more : suc p + run_of is_blank bs ≡ p + suc (run_of is_blank bs) = omega arith in
-    let same : p ≡ p + 0 = omega arith in
     elim (is_blank b) as (λ (v : Bool). is_blank b ≡ v → tokens_from (b ∷ bs) 0 p ≡ tokens_from (drop (run_of is_blank (b ∷ bs)) (b ∷ bs)) 0 (p + run_of is_blank (b ∷ bs))) [
-      | true ↦ λ e.
-          ap (λ (v : Bool). tell v (front b bs) p (tokens_from bs)) e ∙ h ∙ ap (tokens_from (drop (run_of is_blank bs) bs) 0) more
-          ∙ sym (ap (λ (n : ℕ). tokens_from (drop n (b ∷ bs)) 0 (p + n)) (run_on is_blank b bs e))
-      | false ↦ λ e.
-          ap (tokens_from (b ∷ bs) 0) same ∙ sym (ap (λ (n : ℕ). tokens_from (drop n (b ∷ bs)) 0 (p + n)) (run-off is_blank b bs e))
+      | true ↦ λ e. let n = run_on is_blank b bs e in grind arith
+      | false ↦ λ e. let n = run-off is_blank b bs e in grind arith
     ]
     refl
 
 -- bytes that belong to a token that was told
 inside : (bs : List ℕ) (k p : ℕ) → k ≤ length bs → tokens_from bs k p ≡ tokens_from (drop k bs) 0 (p + k)
-inside [] zero p h = let e : p ≡ p + 0 = omega arith in ap (tokens_from [] 0) e
+inside [] zero p h = grind arith
 inside [] (suc k) p h = absurd (omega arith)
-inside (b ∷ bs) zero p h = let e : p ≡ p + 0 = omega arith in ap (tokens_from (b ∷ bs) 0) e
-inside (b ∷ bs) (suc k) p h =
-    let l : k ≤ length bs = omega arith in
-    let e : suc p + k ≡ p + suc k = omega arith in
-    inside bs k (suc p) l ∙ ap (tokens_from (drop k bs) 0) e
+inside (b ∷ bs) zero p h = grind arith
+inside (b ∷ bs) (suc k) p h = grind (arith, inside bs k (suc p))
 
 sign_fits : (o : Option Symbol) (k : Kind) → (sign_or o k).1 ≤ 1
-sign_fits (Some s) k = omega arith
-sign_fits None k = omega arith
+sign_fits o k = grind arith
 
 sign-front-fits : (b : ℕ) (bs : List ℕ) → (sign_front b bs).1 ≤ length bs
 sign-front-fits b [] = omega arith
@@ -47,10 +36,7 @@ sign-front-fits b (c ∷ bs) = let h = sign_fits (pair_sign b c) (single_sign b)
 
 -- a token stays in the text
 front_fits : (b : ℕ) (bs : List ℕ) → (front b bs).1 ≤ length bs
-front_fits b bs =
-    let P : Kind × ℕ → Type 0 = λ w. w.1 ≤ length bs in
-    cond_both (is_ascii_digit b) _ _ P (λ _. run_fits is_ascii_digit bs) (λ _.
-    cond_both (begins_word b) _ _ P (λ _. run_fits goes_on bs) (λ _. sign-front-fits b bs))
+front_fits b bs = grind (arith, prefix_len-le-length, sign-front-fits b bs)
 
 -- the token at the front of what begins with no blank, n bytes long
 at_front : (bs : List ℕ) (p n : ℕ) → run_of is_blank bs ≡ 0 → (standing p bs).end ≡ p + n → tokens_from bs 0 p ≡ standing p bs ∷ after (standing p bs).kind (tokens_from (drop n bs) 0 (p + n))
@@ -59,16 +45,9 @@ at_front (b ∷ bs) p n e h =
     let m : ℕ = (front b bs).1 in
     let len : suc m ≡ n = omega arith in
     let to : suc p + m ≡ p + suc m = omega arith in
-    let go = inside bs m (suc p) (front_fits b bs) ∙ ap (tokens_from (drop m bs) 0) to in
-    let F : ℕ → List Token = λ k. standing p (b ∷ bs) ∷ after (front b bs).0 (tokens_from (drop k (b ∷ bs)) 0 (p + k)) in
-    elim (is_blank b) as (λ (v : Bool). is_blank b ≡ v → tokens_from (b ∷ bs) 0 p ≡ F n) [
-      | true ↦ λ t. absurd (omega (arith, run_on is_blank b bs t))
-      | false ↦ λ t.
-          ap (λ (v : Bool). tell v (front b bs) p (tokens_from bs)) t
-          ∙ ap (λ (ts : List Token). standing p (b ∷ bs) ∷ after (front b bs).0 ts) go
-          ∙ ap F len
-    ]
-    refl
+    ap (λ (v : Bool). tell v (front b bs) p (tokens_from bs)) (run_none is_blank b bs e)
+    ∙ ap (λ (ts : List Token). standing p (b ∷ bs) ∷ after (front b bs).0 ts) (inside bs m (suc p) (front_fits b bs) ∙ ap (tokens_from (drop m bs) 0) to)
+    ∙ ap (λ (k : ℕ). standing p (b ∷ bs) ∷ after (front b bs).0 (tokens_from (drop k (b ∷ bs)) 0 (p + k))) len
 
 forward : (p : ℕ) (bs : List ℕ) → p ≤ (standing p bs).end
 forward p [] = omega arith
@@ -112,7 +91,7 @@ found-placed text at = by (drop s text) (length-drop s text)
 
     by : (l : List ℕ) → length l ≡ length text - s → Placed text at (standing s l)
     by [] e =
-        let f = run_fits is_blank (drop at text) in
+        let f = prefix_len-le-length is_blank (drop at text) in
         let d = length-drop at text in
         record { ahead = omega arith; forward = omega arith; within = λ h. omega arith; taken = λ h. absurd (h refl) }
     by (b ∷ bs) e =

@@ -1,13 +1,13 @@
 -- The table of signs, forward and back: what the scanner takes for a sign is spelled so, and where a sign is spelled
 -- the scanner takes one that is at least as long.
-use Rattle.std.proofs.Common.{◌≡◌, ℕ, zero, suc, ◌≤◌, true, false, ◌&&◌, eqb, List, [], ◌∷◌, length, get_or, take, Some, None, Option, sym, refl, ap, ◌∙◌, subst, arith}
+use Rattle.std.proofs.Common.{◌≡◌, ℕ, zero, suc, ◌≤◌, true, false, eqb, List, [], ◌∷◌, length, get_or, take, Some, None, Option, sym, refl, ap, ◌∙◌, subst, arith}
 use Rattle.std.proofs.lemmas.List.{length-take}
-use Rattle.std.proofs.lemmas.Bool.{and_parts, eqb-true, cond_both}
+use Rattle.std.proofs.lemmas.Bool.{eqb-true}
 use Rattle.std.specs.Char.{is_ascii_digit}
 use Rattle.scanner.specs.Words.{begins_word}
 use Rattle.scanner.specs.Tokens.{pair_sign, single_sign, pair_front, sign_or, sign_front}
 use Rattle.scanner.specs.Spelling.{spelling}
-use Rattle.scanner.specs.declared.token.ComparisonSign.TheVariants.{Less, LessOrEqual, Greater, GreaterOrEqual, Equal, NotEqual}
+use Rattle.arith.specs.declared.comparison.Comparison.TheVariants.{Less, LessOrEqual, Greater, GreaterOrEqual, Equal, NotEqual}
 use Rattle.scanner.specs.declared.token.Symbol.{Symbol}
 use Rattle.scanner.specs.declared.token.Symbol.TheVariants.{OpenBlock, CloseBlock, Open, Close, Semicolon, Becomes, Plus, Minus, Times, Over, Not, And, Or, Compare}
 use Rattle.scanner.specs.declared.token.Kind.{Kind}
@@ -47,22 +47,8 @@ abbrev pub PairOk : ℕ → ℕ → Option Symbol → Type 0
 PairOk b c (Some s) = b ∷ c ∷ [] ≡ spelling s
 PairOk b c None = Unit {0}
 
-two : (b c x y : ℕ) → (eqb b x && eqb c y) ≡ true → b ∷ c ∷ [] ≡ x ∷ y ∷ []
-two b c x y e =
-    let h = and_parts (eqb b x) (eqb c y) e in
-    let p = eqb-true b x h.0 in
-    let q = eqb-true c y h.1 in
-    cc
-
 pub pair_ok : (b c : ℕ) → PairOk b c (pair_sign b c)
-pair_ok b c =
-    let P : Option Symbol → Type 0 = PairOk b c in
-    cond_both (eqb b 60 && eqb c 61) _ _ P (two b c 60 61) (λ _.
-    cond_both (eqb b 62 && eqb c 61) _ _ P (two b c 62 61) (λ _.
-    cond_both (eqb b 61 && eqb c 61) _ _ P (two b c 61 61) (λ _.
-    cond_both (eqb b 33 && eqb c 61) _ _ P (two b c 33 61) (λ _.
-    cond_both (eqb b 38 && eqb c 38) _ _ P (two b c 38 38) (λ _.
-    cond_both (eqb b 124 && eqb c 124) _ _ P (two b c 124 124) (λ _. tt))))))
+pair_ok b c = grind arith
 
 abbrev pub SingleOk : ℕ → Kind → Type 0
 SingleOk b Word = ⊥
@@ -75,21 +61,7 @@ one : (b x : ℕ) → eqb b x ≡ true → b ∷ [] ≡ x ∷ []
 one b x e = ap (λ (b : ℕ). b ∷ []) (eqb-true b x e)
 
 pub single-ok : (b : ℕ) → SingleOk b (single_sign b)
-single-ok b =
-    let P : Kind → Type 0 = SingleOk b in
-    cond_both (eqb b 123) _ _ P (one b 123) (λ _.
-    cond_both (eqb b 125) _ _ P (one b 125) (λ _.
-    cond_both (eqb b 40) _ _ P (one b 40) (λ _.
-    cond_both (eqb b 41) _ _ P (one b 41) (λ _.
-    cond_both (eqb b 59) _ _ P (one b 59) (λ _.
-    cond_both (eqb b 61) _ _ P (one b 61) (λ _.
-    cond_both (eqb b 43) _ _ P (one b 43) (λ _.
-    cond_both (eqb b 45) _ _ P (one b 45) (λ _.
-    cond_both (eqb b 42) _ _ P (one b 42) (λ _.
-    cond_both (eqb b 47) _ _ P (one b 47) (λ _.
-    cond_both (eqb b 33) _ _ P (one b 33) (λ _.
-    cond_both (eqb b 60) _ _ P (one b 60) (λ _.
-    cond_both (eqb b 62) _ _ P (one b 62) (λ _. tt)))))))))))))
+single-ok b = grind (arith, one)
 
 -- back
 

@@ -3,18 +3,18 @@
 -- scanner finds just these tokens is a law on its contract.
 use Rattle.std.specs.Prelude.{◌≡◌, ℕ, ◌-◌, ◌≤◌, Bool, true, false, ◌&&◌, List, [], ◌∷◌, length, take, drop, codes}
 use Rattle.std.specs.Char.{is_ascii_digit}
-use Rattle.std.specs.List.{AllByRecursion}
+use Rattle.std.specs.List.{AllByRecursion, list_all}
 use Rattle.scanner.specs.Words.{is_word}
 use Rattle.scanner.specs.Tokens.{is_blank}
-use Rattle.scanner.specs.declared.token.ComparisonSign.{ComparisonSign}
-use Rattle.scanner.specs.declared.token.ComparisonSign.TheVariants.{Less, LessOrEqual, Greater, GreaterOrEqual, Equal, NotEqual}
+use Rattle.arith.specs.declared.comparison.Comparison.{Comparison}
+use Rattle.arith.specs.declared.comparison.Comparison.TheVariants.{Less, LessOrEqual, Greater, GreaterOrEqual, Equal, NotEqual}
 use Rattle.scanner.specs.declared.token.Symbol.{Symbol}
 use Rattle.scanner.specs.declared.token.Symbol.TheVariants.{OpenBlock, CloseBlock, Open, Close, Semicolon, Becomes, Plus, Minus, Times, Over, Not, And, Or, Compare}
 use Rattle.scanner.specs.declared.token.Kind.{Kind}
 use Rattle.scanner.specs.declared.token.Kind.TheVariants.{Word, Number, Sign, End, Stray}
 use Rattle.scanner.specs.declared.token.Token.{Token}
 
-abbrev pub comparison_spelling : ComparisonSign → List ℕ
+abbrev pub comparison_spelling : Comparison → List ℕ
 comparison_spelling Less = codes "<"
 comparison_spelling LessOrEqual = codes "<="
 comparison_spelling Greater = codes ">"
@@ -39,8 +39,7 @@ spelling Or = codes "||"
 spelling (Compare c) = comparison_spelling c
 
 abbrev pub all_digits : List ℕ → Bool
-all_digits [] = true
-all_digits (b ∷ bs) = is_ascii_digit b && all_digits bs
+all_digits bs = list_all is_ascii_digit bs
 
 abbrev pub is_number : List ℕ → Bool
 is_number [] = false

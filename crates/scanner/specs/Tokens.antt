@@ -3,9 +3,10 @@
 -- a token is one table of signs, the longer sign first, and two runs: digits for a number, letters, digits and
 -- underscores for a word. So a reader has to believe that table and those runs, and no search.
 use Rattle.std.specs.Prelude.{ℕ, zero, suc, ◌+◌, ◌-◌, ◌<◌, ◌≤◌, Bool, true, false, cond, ◌&&◌, ◌||◌, List, [], ◌∷◌, length, take, drop, Some, None, Option, ◌==◌, ◌≢◌}
+use Rattle.std.specs.List.{prefix_len}
 use Rattle.std.specs.Char.{is_ascii_digit}
 use Rattle.scanner.specs.Words.{begins_word, goes_on}
-use Rattle.scanner.specs.declared.token.ComparisonSign.TheVariants.{Less, LessOrEqual, Greater, GreaterOrEqual, Equal, NotEqual}
+use Rattle.arith.specs.declared.comparison.Comparison.TheVariants.{Less, LessOrEqual, Greater, GreaterOrEqual, Equal, NotEqual}
 use Rattle.scanner.specs.declared.token.Symbol.{Symbol}
 use Rattle.scanner.specs.declared.token.Symbol.TheVariants.{OpenBlock, CloseBlock, Open, Close, Semicolon, Becomes, Plus, Minus, Times, Over, Not, And, Or, Compare}
 use Rattle.scanner.specs.declared.token.Kind.{Kind}
@@ -18,8 +19,7 @@ is_blank b = b == 9 || (b == 10 || (b == 13 || b == 32))
 
 -- how many bytes at the front pass a test
 abbrev pub run_of : (ℕ → Bool) → List ℕ → ℕ
-run_of test [] = 0
-run_of test (b ∷ bs) = cond (test b) (suc (run_of test bs)) 0
+run_of test bs = prefix_len test bs
 
 -- <= >= == != && ||
 abbrev pub pair_sign : ℕ → ℕ → Option Symbol

@@ -1,6 +1,7 @@
 -- What a word is: names, and the words of a sheet, are built alike, so this is said once. The bytes are ASCII's,
 -- so no byte over 127 is part of a word.
-use Rattle.std.specs.Prelude.{ℕ, Bool, true, false, ◌&&◌, ◌||◌, List, [], ◌∷◌, ◌==◌}
+use Rattle.std.specs.Prelude.{ℕ, Bool, false, ◌&&◌, ◌||◌, List, [], ◌∷◌, ◌==◌}
+use Rattle.std.specs.List.{list_all}
 use Rattle.std.specs.Char.{is_ascii_alphabetic, is_ascii_alphanumeric}
 
 -- a letter or an underscore
@@ -12,8 +13,7 @@ abbrev pub goes_on : ℕ → Bool
 goes_on b = is_ascii_alphanumeric b || b == 95
 
 abbrev pub all_go_on : List ℕ → Bool
-all_go_on [] = true
-all_go_on (b ∷ bs) = goes_on b && all_go_on bs
+all_go_on bs = list_all goes_on bs
 
 abbrev pub is_word : List ℕ → Bool
 is_word [] = false

@@ -1,8 +1,9 @@
-// A cursor: a sheet's bytes and where reading stands in them.
+// A cursor: a sheet's bytes and where reading stands in them, and the steps from token to token.
 ghost use Rattle.std.specs.Prelude.{◌≡◌};
-ghost use Rattle.scanner.specs.Cursors.{held, at_start, peek_held, next_held, look_held, PlacedLaw, LookLaw};
+ghost use Rattle.scanner.specs.Cursors.{held, at_start, peek_held, next_held, PlacedLaw};
 
 use crate::position::Position;
+use crate::scan::token_at;
 use crate::token::Token;
 
 #[derive(Drop)]
@@ -26,7 +27,7 @@ impl<'a> Cursor<'a> {
         ensures value { result ≡ peek_held (held self.now) }
         ensures placed { PlacedLaw (held self.now) result }
     {
-        self.position.peek(self.text)
+        token_at(self.text, self.position.at)
     }
 
     // The same, and the position moves behind it.
@@ -34,16 +35,8 @@ impl<'a> Cursor<'a> {
         ensures value { (result, held self.new) ≡ next_held (held self.old) }
         ensures placed { PlacedLaw (held self.old) result }
     {
-        let text = self.text;
-        self.position.next(text)
-    }
-
-    // The position is just behind a `(`. Whether it opens a condition; the position stays.
-    pub fn opens_condition(&mut self) -> bool
-        ensures value { (result, held self.new) ≡ look_held (held self.old) }
-        ensures law { LookLaw (held self.old) result }
-    {
-        let text = self.text;
-        self.position.opens_condition(text)
+        let token = self.peek();
+        self.position.at = token.end;
+        token
     }
 }

@@ -13,7 +13,7 @@ pub use cursor::Cursor;
 pub use look::Sight;
 pub use position::Position;
 pub use scan::token_at;
-pub use token::{ComparisonSign, Kind, Symbol, Token};
+pub use token::{Kind, Symbol, Token};
 pub use word::is_word;
 
 #[cfg(test)]

@@ -1,11 +1,11 @@
 // The look ahead: whether the bracket just read opens a condition.
 ghost use Rattle.std.specs.Prelude.{◌≡◌};
-ghost use Rattle.std.specs.Str.{bytes_eq};
-ghost use Rattle.scanner.specs.Tokens.{tokens_at};
-ghost use Rattle.scanner.specs.Clues.{OpensCondition};
-ghost use Rattle.scanner.specs.Looks.{look_from, is_truth, symbol_sight, sight_of};
+ghost use Rattle.scanner.specs.Cursors.{held, look_held, LookLaw};
+ghost use Rattle.scanner.specs.Looks.{symbol_sight, sight_of};
 
+use crate::cursor::Cursor;
 use crate::position::Position;
+use crate::scan::token_at;
 use crate::token::{Kind, Symbol, Token};
 
 // What a token is to the look.
@@ -38,20 +38,23 @@ impl Drop for Back<'_> {
     }
 }
 
-impl Position {
-    // The position is just behind a `(`. Whether a clue stands before its partner; the position stays.
-    pub fn opens_condition(&mut self, text: &[u8]) -> bool
-        ensures value { (result, self.new) ≡ look_from text.now self.old }
-        ensures law { OpensCondition text.now (tokens_at text.now self.old.at) result }
+impl Cursor<'_> {
+    // The position is just behind a `(`. Whether it opens a condition; the position stays.
+    #[tactic(auto, using(crate::proofs::ClueLaws::look_steps))]
+    pub fn opens_condition(&mut self) -> bool
+        ensures value { (result, held self.new) ≡ look_held (held self.old) }
+        ensures law { LookLaw (held self.old) result }
     {
-        let old = *self;
+        let text = self.text;
+        let old = self.position;
         let guard = Back {
-            position: self,
+            position: &mut self.position,
             old,
         };
         let mut depth: usize = 0;
         'ahead: loop {
-            let token = guard.position.next(text);
+            let token = token_at(text, guard.position.at);
+            guard.position.at = token.end;
             match sight_of(text, token) {
                 Sight::Clue => return true,
                 Sight::Opens => depth += 1,
@@ -72,29 +75,14 @@ fn sight_of(text: &[u8], token: Token) -> Sight
     ensures { result ≡ sight_of text.now token }
 {
     match token.kind {
-        Kind::Word => {
-            if is_truth(token.bytes(text)) {
-                Sight::Clue
-            } else {
-                Sight::Passes
-            }
-        }
+        Kind::Word => match token.bytes(text) {
+            b"true" | b"false" => Sight::Clue,
+            _ => Sight::Passes,
+        },
         Kind::Number => Sight::Passes,
         Kind::Sign(symbol) => symbol_sight(symbol),
         Kind::End | Kind::Stray => Sight::Stops,
     }
-}
-
-fn is_truth(word: &[u8]) -> bool
-    ensures { result ≡ is_truth word.now }
-{
-    same(word, b"true") || same(word, b"false")
-}
-
-fn same(left: &[u8], right: &[u8]) -> bool
-    ensures { result ≡ bytes_eq left.now right.now }
-{
-    left == right
 }
 
 fn symbol_sight(symbol: Symbol) -> Sight

@@ -3,9 +3,10 @@ ghost use Rattle.std.specs.Prelude.{◌≡◌, ◌<◌, length, drop};
 ghost use Rattle.scanner.specs.Tokens.{token_at, Placed, standing, sign_standing, pair_front, pair_sign, single_sign};
 ghost use Rattle.scanner.specs.Spelling.{Found};
 
-use crate::run::{Class, run_end};
-use crate::token::{ComparisonSign, Kind, Symbol, Token};
-use crate::word::begins_word;
+use crate::run::{is_blank, run_end};
+use crate::token::{Kind, Symbol, Token};
+use crate::word::{begins_word, goes_on};
+use arith::Comparison;
 
 // The first token at `at` or after it. At the end, and past it, that is `Kind::End`.
 pub fn token_at(text: &[u8], at: usize) -> Token
@@ -13,7 +14,7 @@ pub fn token_at(text: &[u8], at: usize) -> Token
     ensures placed { Placed text.now at result }
     ensures found { Found text.now at result }
 {
-    let start = run_end(text, at, Class::Blank);
+    let start = run_end(text, at, is_blank);
     if start < text.len() {
         token_from(text, start)
     } else {
@@ -35,13 +36,13 @@ fn token_from(text: &[u8], start: usize) -> Token
         Token {
             kind: Kind::Number,
             start,
-            end: run_end(text, start + 1, Class::Digit),
+            end: run_end(text, start + 1, |b| b.is_ascii_digit()),
         }
     } else if begins_word(b) {
         Token {
             kind: Kind::Word,
             start,
-            end: run_end(text, start + 1, Class::InWord),
+            end: run_end(text, start + 1, goes_on),
         }
     } else {
         sign_from(text, start)
@@ -71,21 +72,18 @@ fn pair_from(text: &[u8], start: usize) -> Option<Symbol>
     requires { start < length text.now }
     ensures { result ≡ pair_front (drop start text.now) }
 {
-    if start + 1 < text.len() {
-        pair_sign(text[start], text[start + 1])
-    } else {
-        None
-    }
+    let second = text.get(start + 1)?;
+    pair_sign(text[start], *second)
 }
 
 fn pair_sign(b: u8, c: u8) -> Option<Symbol>
     ensures { result ≡ pair_sign b c }
 {
     match (b, c) {
-        (b'<', b'=') => Some(Symbol::Compare(ComparisonSign::LessOrEqual)),
-        (b'>', b'=') => Some(Symbol::Compare(ComparisonSign::GreaterOrEqual)),
-        (b'=', b'=') => Some(Symbol::Compare(ComparisonSign::Equal)),
-        (b'!', b'=') => Some(Symbol::Compare(ComparisonSign::NotEqual)),
+        (b'<', b'=') => Some(Symbol::Compare(Comparison::LessOrEqual)),
+        (b'>', b'=') => Some(Symbol::Compare(Comparison::GreaterOrEqual)),
+        (b'=', b'=') => Some(Symbol::Compare(Comparison::Equal)),
+        (b'!', b'=') => Some(Symbol::Compare(Comparison::NotEqual)),
         (b'&', b'&') => Some(Symbol::And),
         (b'|', b'|') => Some(Symbol::Or),
         _ => None,
@@ -107,8 +105,8 @@ fn single_sign(b: u8) -> Kind
         b'*' => Kind::Sign(Symbol::Times),
         b'/' => Kind::Sign(Symbol::Over),
         b'!' => Kind::Sign(Symbol::Not),
-        b'<' => Kind::Sign(Symbol::Compare(ComparisonSign::Less)),
-        b'>' => Kind::Sign(Symbol::Compare(ComparisonSign::Greater)),
+        b'<' => Kind::Sign(Symbol::Compare(Comparison::Less)),
+        b'>' => Kind::Sign(Symbol::Compare(Comparison::Greater)),
         _ => Kind::Stray,
     }
 }

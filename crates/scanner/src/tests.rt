@@ -2,13 +2,14 @@
 use crate::cursor::Cursor;
 use crate::position::Position;
 use crate::scan::token_at;
-use crate::token::{ComparisonSign, Kind, Symbol, Token};
+use crate::token::{Kind, Symbol, Token};
+use arith::Comparison;
 
 const PAIRS: [(u8, u8, Symbol); 6] = [
-    (b'<', b'=', Symbol::Compare(ComparisonSign::LessOrEqual)),
-    (b'>', b'=', Symbol::Compare(ComparisonSign::GreaterOrEqual)),
-    (b'=', b'=', Symbol::Compare(ComparisonSign::Equal)),
-    (b'!', b'=', Symbol::Compare(ComparisonSign::NotEqual)),
+    (b'<', b'=', Symbol::Compare(Comparison::LessOrEqual)),
+    (b'>', b'=', Symbol::Compare(Comparison::GreaterOrEqual)),
+    (b'=', b'=', Symbol::Compare(Comparison::Equal)),
+    (b'!', b'=', Symbol::Compare(Comparison::NotEqual)),
     (b'&', b'&', Symbol::And),
     (b'|', b'|', Symbol::Or),
 ];
@@ -46,8 +47,8 @@ fn each_sign_of_one_byte(rt: HostRuntime) {
         (b'*', Symbol::Times),
         (b'/', Symbol::Over),
         (b'!', Symbol::Not),
-        (b'<', Symbol::Compare(ComparisonSign::Less)),
-        (b'>', Symbol::Compare(ComparisonSign::Greater)),
+        (b'<', Symbol::Compare(Comparison::Less)),
+        (b'>', Symbol::Compare(Comparison::Greater)),
     ];
     for (byte, symbol) in signs {
         for behind in [b' ', b'a', b'<', b'0'] {
@@ -71,7 +72,7 @@ fn tokens_and_their_places(rt: HostRuntime) {
         (
             "<==",
             0,
-            Kind::Sign(Symbol::Compare(ComparisonSign::LessOrEqual)),
+            Kind::Sign(Symbol::Compare(Comparison::LessOrEqual)),
             0,
             2,
         ),
@@ -79,7 +80,7 @@ fn tokens_and_their_places(rt: HostRuntime) {
         (
             "< =",
             0,
-            Kind::Sign(Symbol::Compare(ComparisonSign::Less)),
+            Kind::Sign(Symbol::Compare(Comparison::Less)),
             0,
             1,
         ),

@@ -1,16 +1,8 @@
 // Tokens: the words, numbers and signs of a sheet. A token is a place in the sheet's bytes, so nothing is copied.
-ghost use Rattle.std.specs.Prelude.{◌≡◌, min, length};
+ghost use Rattle.std.specs.Prelude.{◌≡◌};
 ghost use Rattle.scanner.specs.Tokens.{spelled};
 
-#[derive(Clone, Copy, PartialEq, Eq, Debug)]
-pub enum ComparisonSign {
-    Less,
-    LessOrEqual,
-    Greater,
-    GreaterOrEqual,
-    Equal,
-    NotEqual,
-}
+use arith::Comparison;
 
 // Which sign it is.
 #[derive(Clone, Copy, PartialEq, Eq, Debug)]
@@ -28,7 +20,7 @@ pub enum Symbol {
     Not,
     And,
     Or,
-    Compare(ComparisonSign),
+    Compare(Comparison),
 }
 
 #[derive(Clone, Copy, PartialEq, Eq, Debug)]
@@ -56,15 +48,8 @@ impl Token {
     pub fn bytes(self, text: &[u8]) -> &[u8]
         ensures { result.now ≡ spelled text.now self }
     {
-        let end = inside(text, self.end);
+        let end = self.end.min(text.len());
         let start = self.start.min(end);
         &text[start..end]
     }
-}
-
-// The place, or the text's end where that comes first.
-fn inside(text: &[u8], place: usize) -> usize
-    ensures { result ≡ min place (length text.now) }
-{
-    place.min(text.len())
 }

@@ -1,25 +1,14 @@
 // Words: a letter or an underscore, then letters, digits and underscores.
 ghost use Rattle.std.specs.Prelude.{◌≡◌};
-ghost use Rattle.scanner.specs.Words.{begins_word, goes_on, all_go_on, is_word};
+ghost use Rattle.scanner.specs.Words.{begins_word, goes_on, is_word};
 
 pub fn is_word(bytes: &[u8]) -> bool
     ensures { result ≡ is_word bytes.now }
 {
     match bytes {
         [] => false,
-        [first, rest @ ..] => begins_word(*first) && all_go_on(rest),
+        [first, rest @ ..] => begins_word(*first) && rest.iter().all(|b| goes_on(*b)),
     }
-}
-
-fn all_go_on(bytes: &[u8]) -> bool
-    ensures { result ≡ all_go_on bytes.now }
-{
-    for b in bytes {
-        if !goes_on(*b) {
-            return false;
-        }
-    }
-    true
 }
 
 pub(crate) fn begins_word(b: u8) -> bool

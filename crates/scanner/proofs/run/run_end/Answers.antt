@@ -1,19 +1,12 @@
-use Rattle.std.proofs.Common.{sym, arith}
-use Rattle.scanner.specs.Runs.{belongs}
-use Rattle.scanner.proofs.RunSteps.{run_more, run-stops, run_ends}
+use Rattle.std.proofs.Common.{◌≡◌, ℕ, true, false, refl, rules, arith}
+use Rattle.std.proofs.lemmas.List.{take_rest}
+use Rattle.std.proofs.lemmas.Iterator.{YieldsList-from_slice, IsFirst-from_position, index_from_first}
+use Rattle.scanner.specs.Tokens.{run_of}
+use Rattle.scanner.proofs.RunSteps.{run_on, run-off}
 use Rattle.scanner.proofs.run.run_end.Goals as goal
 
-pub loop-i-preserved : goal.loop-i-preserved
-loop-i-preserved c =
-    let e = run_more (belongs c.args.class) c.args.text.now c.loop-i.i (omega arith) (sym c.if-has.ensures) in
-    omega (arith, c.loop-i.invariant)
-
-pub returns-else-has : goal.returns-else-has
-returns-else-has c =
-    let e = run-stops (belongs c.args.class) c.args.text.now c.loop-i.i (omega arith) (sym c.if-has.ensures) in
-    omega (arith, c.loop-i.invariant)
-
-pub returns-after-loop-i : goal.returns-after-loop-i
-returns-after-loop-i c =
-    let e = run_ends (belongs c.args.class) c.args.text.now c.loop-i.i (omega arith) in
-    omega (arith, c.loop-i.invariant)
+pub returns : goal.returns
+returns g c class tells =
+    let first = IsFirst-from_position _ _ c.position.result (λ (b : ℕ). class b ≡ false) (λ (b : ℕ). class b ≡ true) c.position.ensures.ran (YieldsList-from_slice c.in-Some.rest.now c.iter.ensures.rest) (λ x q k. search (rules, tells)) (λ x q k. search (rules, tells)) in
+    let run = index_from_first (run_of class) (λ (b : ℕ). class b ≡ false) (λ (b : ℕ). class b ≡ true) refl (run-off class) (λ b bs e. omega (arith, run_on class b bs e)) c.in-Some.rest.now c.position.result first in
+    cc (run, c.in-Some.ensures.lookup.0.2, take_rest c.args.text.now c.args.at)

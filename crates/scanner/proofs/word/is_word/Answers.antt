@@ -1,7 +1,9 @@
-use Rattle.std.proofs.Common.{◌≡◌, ℕ, Bool, true, ◌&&◌, List, [], ◌∷◌, get_or, drop, ap, ◌∙◌}
+use Rattle.std.proofs.Common.{◌≡◌, ℕ, Bool, true, ◌&&◌, List, [], ◌∷◌, get_or, drop, ap, ◌∙◌, rules, tests}
 use Rattle.std.proofs.lemmas.List.{take_rest}
+use Rattle.std.proofs.lemmas.Iterator.{YieldsList-from_slice}
+use Rattle.std.proofs.lemmas.Iterator.Search.{all_from_yields_List}
 use Rattle.std.proofs.lemmas.Bool.{true≢false}
-use Rattle.scanner.specs.Words.{is_word, begins_word, all_go_on}
+use Rattle.scanner.specs.Words.{is_word, begins_word, goes_on, all_go_on}
 use Rattle.scanner.proofs.word.is_word.Goals as goal
 
 -- no word begins with byte 0, so a text that begins one is not empty
@@ -11,5 +13,5 @@ begun (b ∷ bs) e = ap (λ (t : Bool). t && all_go_on bs) e
 
 pub returns-then-begins_word : goal.returns-then-begins_word
 returns-then-begins_word c =
-    c.all_go_on.ensures ∙ ap all_go_on (take_rest c.args.bytes.now 1)
+    all_from_yields_List goes_on _ _ c.all.result c.all.ensures.ran (YieldsList-from_slice _ (c.iter.ensures.rest ∙ take_rest c.args.bytes.now 1)) (λ x b q k. search (rules, tests))
     ∙ begun c.args.bytes.now c.if-begins_word.ensures
