@@ -2,7 +2,6 @@
 use Rattle.std.proofs.Common.{◌≡◌, ℕ, suc, ◌+◌, ◌<◌, ◌≤◌, List, [], ◌∷◌, ◌++◌, length, take, Some, None, Option, sym, refl, ap, ◌∙◌, subst, arith}
 use Rattle.std.proofs.lemmas.List.{append-nil, append_assoc, length-append, length_push, nil_from_length, take_at}
 use Rattle.std.specs.List.{AllByRecursion}
-use Rattle.names.specs.declared.bad_line.BadLine.{BadLine}
 use Rattle.names.specs.declared.bad_line.Complaint.{Complaint}
 use Rattle.names.specs.declared.bad_line.Complaint.TheVariants.{NoNewline}
 use Rattle.names.specs.Lines.{lines_of, rest_of}

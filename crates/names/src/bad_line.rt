@@ -31,10 +31,7 @@ impl From<BadLine> for Fault {
     ghost from_gives = { λ bad fault. fault ≡ list_fault bad.start };
 
     fn from(bad: BadLine) -> Fault {
-        Fault {
-            layer: Layer::Reader(ReaderCause::BadList),
-            figure: bad.start as u64,
-        }
+        Fault::new(Layer::Reader(ReaderCause::BadList), bad.start)
     }
 }
 

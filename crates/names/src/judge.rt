@@ -75,11 +75,9 @@ fn complaint_of(count: usize, seen: &[u8], line: &[u8]) -> Option<Complaint>
 fn shape_complaint(line: &[u8]) -> Complaint
     ensures { result ≡ shape_complaint line.now }
 {
-    if line.is_empty() {
-        Complaint::Blank
-    } else if line[0].is_ascii_digit() {
-        Complaint::DigitFirst
-    } else {
-        Complaint::BadByte
+    match line.first() {
+        None => Complaint::Blank,
+        Some(b) if b.is_ascii_digit() => Complaint::DigitFirst,
+        Some(_) => Complaint::BadByte,
     }
 }

@@ -1,7 +1,6 @@
-use Rattle.std.proofs.Common.{◌≡◌, ◌+◌, length, take, sym, ap, ◌∙◌, rules, arith}
+use Rattle.std.proofs.Common.{◌≡◌, length, take, sym, ap, ◌∙◌, rules, arith}
 use Rattle.std.proofs.lemmas.List.{length-take-le}
 use Rattle.std.proofs.lemmas.Iterator.Consumers.{YieldsList-from_first, count_from_yields_List}
-use Rattle.std.specs.Iterator.Adapters.{enumerate_source, enumerate_count}
 use Rattle.names.specs.Lines.{lines_of}
 use Rattle.names.specs.Complaints.{complaint_of}
 use Rattle.names.proofs.Judged.{fits, bad, next, ends-short, ends-whole}
