@@ -1,18 +1,23 @@
--- Newlines, and the bytes since the last one, with one byte more at the end.
-use Rattle.std.proofs.Common.{◌≡◌, ℕ, suc, ◌+◌, ◌<◌, Bool, true, false, cond, eqb, List, [], ◌∷◌, ◌++◌, length, get_or, take, refl, ap, ◌∙◌}
-use Rattle.std.proofs.lemmas.List.{take_more}
-use Rattle.std.proofs.lemmas.Bool.{eq-eqb, ne_eqb}
-use Rattle.excerpts.specs.Excerpts.{newlines, since_from, since}
+-- The newlines of a text in the library's words: how many there are, and how far off the first and the last of them is.
+use Rattle.std.proofs.Common.{◌≡◌, ℕ, suc, ◌+◌, Bool, true, false, cond, eqb, not, count_by, List, [], ◌∷◌, ◌++◌, length, refl, sym, ap, ◌∙◌, arith}
+use Rattle.std.specs.List.{take_while}
+use Rattle.std.proofs.lemmas.List.Folds.{length-prefix_len}
+use Rattle.std.proofs.lemmas.List.Recursion.{is_count_by, is_position_or_len}
+use Rattle.std.proofs.lemmas.List.{reverse-append, reverse-reverse}
+use Rattle.excerpts.specs.Excerpts.{newlines, since_from, since, until_newline}
+use mathlib.Core.List.{reverse}
 
-newlines-more : (bs : List ℕ) (b : ℕ) → newlines (bs ++ b ∷ []) ≡ cond (eqb b 10) (suc (newlines bs)) (newlines bs)
-newlines-more [] b = refl
-newlines-more (a ∷ bs) b =
-    elim (eqb a 10) as (λ (t : Bool). cond t (suc (newlines (bs ++ b ∷ []))) (newlines (bs ++ b ∷ [])) ≡ cond (eqb b 10) (suc (cond t (suc (newlines bs)) (newlines bs))) (cond t (suc (newlines bs)) (newlines bs)))
-    [ true ↦ ap suc (newlines-more bs b) ∙ carried (eqb b 10) (newlines bs) | false ↦ newlines-more bs b ]
-  where
-    carried : (t : Bool) (n : ℕ) → suc (cond t (suc n) n) ≡ cond t (suc (suc n)) (suc n)
-    carried true n = refl
-    carried false n = refl
+one_more : (n : ℕ) → suc n ≡ 1 + n
+one_more n = omega arith
+
+pub newlines-is : (bs : List ℕ) → newlines bs ≡ count_by (λ b. eqb b 10) bs
+newlines-is =
+    is_count_by newlines (λ b. eqb b 10) refl (λ b bs. ap (λ (n : ℕ). cond (eqb b 10) n (newlines bs)) (one_more (newlines bs)))
+
+pub until_newline-is : (bs : List ℕ) → until_newline bs ≡ length (take_while (λ b. not (eqb b 10)) bs)
+until_newline-is bs =
+    is_position_or_len until_newline (λ b. eqb b 10) refl (λ b bs. ap (cond (eqb b 10) 0) (one_more (until_newline bs))) bs
+    ∙ sym (length-prefix_len (λ b. not (eqb b 10)) bs)
 
 since-more : (n : ℕ) (bs : List ℕ) (b : ℕ) → since_from n (bs ++ b ∷ []) ≡ cond (eqb b 10) 0 (suc (since_from n bs))
 since-more n [] b = refl
@@ -20,23 +25,10 @@ since-more n (a ∷ bs) b =
     elim (eqb a 10) as (λ (t : Bool). cond t (since_from 0 (bs ++ b ∷ [])) (since_from (suc n) (bs ++ b ∷ [])) ≡ cond (eqb b 10) 0 (suc (cond t (since_from 0 bs) (since_from (suc n) bs))))
     [ true ↦ since-more 0 bs b | false ↦ since-more (suc n) bs b ]
 
-module _ (text : List ℕ) (i : ℕ) (l : i < length text) where
-  pub lines-at-newline : get_or text i 0 ≡ 10 → newlines (take (i + 1) text) ≡ suc (newlines (take i text))
-  lines-at-newline e =
-      ap newlines (take_more text i 0 l) ∙ newlines-more (take i text) (get_or text i 0)
-      ∙ ap (λ (t : Bool). cond t (suc (newlines (take i text))) (newlines (take i text))) (eq-eqb (get_or text i 0) 10 e)
-
-  pub lines-at-byte : (get_or text i 0 ≡ 10 → ⊥) → newlines (take (i + 1) text) ≡ newlines (take i text)
-  lines-at-byte n =
-      ap newlines (take_more text i 0 l) ∙ newlines-more (take i text) (get_or text i 0)
-      ∙ ap (λ (t : Bool). cond t (suc (newlines (take i text))) (newlines (take i text))) (ne_eqb (get_or text i 0) 10 n)
-
-  pub since-at-newline : get_or text i 0 ≡ 10 → since (take (i + 1) text) ≡ 0
-  since-at-newline e =
-      ap since (take_more text i 0 l) ∙ since-more 0 (take i text) (get_or text i 0)
-      ∙ ap (λ (t : Bool). cond t 0 (suc (since (take i text)))) (eq-eqb (get_or text i 0) 10 e)
-
-  pub since-at-byte : (get_or text i 0 ≡ 10 → ⊥) → since (take (i + 1) text) ≡ suc (since (take i text))
-  since-at-byte n =
-      ap since (take_more text i 0 l) ∙ since-more 0 (take i text) (get_or text i 0)
-      ∙ ap (λ (t : Bool). cond t 0 (suc (since (take i text)))) (ne_eqb (get_or text i 0) 10 n)
+pub since-is : (bs : List ℕ) → since bs ≡ length (take_while (λ b. not (eqb b 10)) (reverse bs))
+since-is bs =
+    ap since (sym (reverse-reverse bs))
+    ∙ is_position_or_len (λ cs. since (reverse cs)) (λ b. eqb b 10) refl
+    (λ b cs. ap since (reverse-append (b ∷ []) cs) ∙ since-more 0 (reverse cs) b ∙ ap (cond (eqb b 10) 0) (one_more (since (reverse cs))))
+    (reverse bs)
+    ∙ sym (length-prefix_len (λ b. not (eqb b 10)) (reverse bs))

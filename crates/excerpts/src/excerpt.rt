@@ -4,7 +4,7 @@ ghost use Rattle.excerpts.specs.Excerpts.{Spot, line_end, shown_by, excerpt_of};
 
 use std::fmt;
 
-const NEWLINE: u8 = 10;
+const NEWLINE: u8 = b'\n';
 
 // Line and column count from 1; the text is the line's own, without its newline.
 #[derive(Clone, Copy)]
@@ -33,15 +33,10 @@ fn line_of(text: &[u8], place: usize) -> (usize, usize)
     ensures value { Spot text.now place result.0 result.1 }
     ensures before { result.1 ≤ place }
 {
-    let mut line = 1;
-    let mut start = 0;
-    for i in 0..place {
-        if text[i] == NEWLINE {
-            line += 1;
-            start = i + 1;
-        }
-    }
-    (line, start)
+    let before = &text[..place];
+    let newlines = before.iter().filter(|b| **b == NEWLINE).count();
+    let since = before.iter().rev().take_while(|b| **b != NEWLINE).count();
+    (newlines + 1, place - since)
 }
 
 fn line_end(text: &[u8], start: usize) -> usize
@@ -49,28 +44,20 @@ fn line_end(text: &[u8], start: usize) -> usize
     ensures value { result ≡ line_end text.now start }
     ensures within { (start ≤ result) × (result ≤ length text.now) }
 {
-    let mut end = start;
-    while end < text.len() && text[end] != NEWLINE {
-        end += 1;
-    }
-    end
+    start + text[start..].iter().take_while(|b| **b != NEWLINE).count()
 }
 
 // The line with a caret under the place. A tab stays one in both lines, so that the caret stands where it should; a byte
 // that has no sign in ASCII is shown as a question mark.
 impl fmt::Display for Excerpt<'_> {
     fn fmt<W: fmt::Write>(&self, f: &mut fmt::Formatter<W>) -> fmt::Result {
-        let line = self.line;
-        let column = self.column;
-        write!(f, "line {line}, column {column}\n")?;
+        writeln!(f, "line {}, column {}", self.line, self.column)?;
         for b in self.text {
             f.write_char(shown_as(*b))?;
         }
         f.write_char('\n')?;
-        for (i, b) in self.text.iter().enumerate() {
-            if i + 1 < column {
-                f.write_char(under(*b))?;
-            }
+        for b in self.text.iter().take(self.column.saturating_sub(1)) {
+            f.write_char(under(*b))?;
         }
         f.write_char('^')
     }
@@ -78,12 +65,12 @@ impl fmt::Display for Excerpt<'_> {
 
 fn shown_as(b: u8) -> char {
     match b {
-        9 => '\t',
-        32..=126 => b as char,
+        b'\t' => '\t',
+        b' '..=b'~' => b as char,
         _ => '?',
     }
 }
 
 fn under(b: u8) -> char {
-    if b == 9 { '\t' } else { ' ' }
+    if b == b'\t' { '\t' } else { ' ' }
 }

@@ -1,48 +1,49 @@
--- The lines of a text, one byte on: what every loop over a text's lines goes by.
-use Rattle.std.proofs.Common.{◌≡◌, ℕ, ◌+◌, ◌-◌, ◌<◌, ◌≤◌, Bool, cond, List, [], ◌∷◌, ◌++◌, length, get_or, take, drop, ap, ◌∙◌, arith}
-use Rattle.std.proofs.lemmas.List.{at_drop_more, take_more, get_or-drop, length-take, length-drop}
-use Rattle.std.proofs.lemmas.Bool.{eq-eqb, ne_eqb}
-use Rattle.names.specs.Lines.{lines_from, rest_from}
+-- The first line of a text, and what is left after it, by where the first byte 10 is.
+use Rattle.std.proofs.Common.{◌≡◌, ℕ, suc, ◌+◌, ◌<◌, ◌≤◌, Bool, true, false, cond, eqb, ltb, not, Some, None, Option, List, [], ◌∷◌, ◌++◌, length, take, drop, refl, sym, ap, ◌∙◌, arith}
+use Rattle.std.specs.List.{position_or_len}
+use Rattle.std.proofs.lemmas.Bool.Decides.{nat_tests}
+use Rattle.std.proofs.lemmas.List.{append-nil, append_assoc}
+use Rattle.names.specs.Lines.{lines_from, lines_of}
 
--- the bytes from start up to i, as `&text[start..i]` has them
-abbrev pub part : List ℕ → ℕ → ℕ → List ℕ
-part text start i = take (i - start) (drop start text)
+-- how many bytes stand before the first byte 10
+abbrev pub line_length : List ℕ → ℕ
+line_length bs = position_or_len (λ b. eqb b 10) bs
 
-pub part_none : (text : List ℕ) (i : ℕ) → part text i i ≡ []
-part_none text i = let e : i - i ≡ 0 = omega arith in rw e
+no-lines-from : (l bs : List ℕ) → length bs ≤ line_length bs → lines_from l bs ≡ []
+no-lines-from l [] h = refl
+no-lines-from l (b ∷ bs) h =
+    elim (eqb b 10) as (λ (t : Bool). length (b ∷ bs) ≤ cond (not t) (1 + line_length bs) 0 → cond t (l ∷ lines_of bs) (lines_from (l ++ b ∷ []) bs) ≡ []) [
+      | true ↦ λ h. absurd (omega (arith, h))
+      | false ↦ λ h. no-lines-from (l ++ b ∷ []) bs (omega (arith, h))
+    ]
+    h
 
-pub part-more : (text : List ℕ) (start i : ℕ) → start ≤ i → i < length text → part text start (i + 1) ≡ part text start i ++ get_or text i 0 ∷ []
-part-more text start i h l =
-    let e : i + 1 - start ≡ (i - start) + 1 = omega arith in
-    let at : start + (i - start) ≡ i = omega arith in
-    let within : i - start < length (drop start text) = simp length-drop (omega arith) in
-    let step = take_more (drop start text) (i - start) 0 within in
-    let same : get_or (drop start text) (i - start) 0 ≡ get_or text i 0 = get_or-drop start text (i - start) 0 ∙ ap (λ (k : ℕ). get_or text k 0) at in
-    rw e (step ∙ ap (λ (b : ℕ). part text start i ++ b ∷ []) same)
+pub no-lines : (bs : List ℕ) → length bs ≤ line_length bs → lines_of bs ≡ []
+no-lines bs h = no-lines-from [] bs h
 
-pub length_part : (text : List ℕ) (start i : ℕ) → start ≤ i → i ≤ length text → start + length (part text start i) ≡ i
-length_part text start i h l =
-    let e = length-take (i - start) (drop start text) in
-    let d = length-drop start text in
-    omega (arith, e, d)
+first-line-from : (l bs : List ℕ) → line_length bs < length bs → lines_from l bs ≡ (l ++ take (line_length bs) bs) ∷ lines_of (drop (line_length bs + 1) bs)
+first-line-from l [] h = absurd (omega arith)
+first-line-from l (b ∷ bs) h =
+    elim (eqb b 10) as (λ (t : Bool). cond (not t) (1 + line_length bs) 0 < length (b ∷ bs) → cond t (l ∷ lines_of bs) (lines_from (l ++ b ∷ []) bs) ≡ (l ++ take (cond (not t) (1 + line_length bs) 0) (b ∷ bs)) ∷ lines_of (drop (cond (not t) (1 + line_length bs) 0 + 1) (b ∷ bs))) [
+      | true ↦ λ h. ap (λ (x : List ℕ). x ∷ lines_of bs) (sym (append-nil l))
+      | false ↦ λ h.
+          let n : 1 + line_length bs ≡ suc (line_length bs) = omega arith in
+          let m : suc (line_length bs) + 1 ≡ suc (line_length bs + 1) = omega arith in
+          rw (n, m)
+          (first-line-from (l ++ b ∷ []) bs (omega (arith, h))
+          ∙ ap (λ (x : List ℕ). x ∷ lines_of (drop (line_length bs + 1) bs)) (append_assoc l (b ∷ []) (take (line_length bs) bs)))
+    ]
+    h
 
--- one byte on, for what is made of the lines to come and of the rest
-module _ {X : Type 0} (F : List (List ℕ) → List ℕ → X) (text : List ℕ) (i : ℕ) (l : i < length text) (line : List ℕ) where
-  pub both-at-newline : get_or text i 0 ≡ 10 → F (lines_from line (drop i text)) (rest_from line (drop i text)) ≡ F (line ∷ lines_from [] (drop (i + 1) text)) (rest_from [] (drop (i + 1) text))
-  both-at-newline e =
-      let t = eq-eqb (get_or text i 0) 10 e in
-      at_drop_more (λ (bs : List ℕ). F (lines_from line bs) (rest_from line bs)) text i 0 l
-      ∙ ap (λ (b : Bool). F (cond b (line ∷ lines_from [] (drop (i + 1) text)) (lines_from (line ++ get_or text i 0 ∷ []) (drop (i + 1) text))) (cond b (rest_from [] (drop (i + 1) text)) (rest_from (line ++ get_or text i 0 ∷ []) (drop (i + 1) text)))) t
+pub first-line : (bs : List ℕ) → line_length bs < length bs → lines_of bs ≡ take (line_length bs) bs ∷ lines_of (drop (line_length bs + 1) bs)
+first-line bs h = first-line-from [] bs h
 
-  pub both-at-byte : (get_or text i 0 ≡ 10 → ⊥) → F (lines_from line (drop i text)) (rest_from line (drop i text)) ≡ F (lines_from (line ++ get_or text i 0 ∷ []) (drop (i + 1) text)) (rest_from (line ++ get_or text i 0 ∷ []) (drop (i + 1) text))
-  both-at-byte n =
-      let t = ne_eqb (get_or text i 0) 10 n in
-      at_drop_more (λ (bs : List ℕ). F (lines_from line bs) (rest_from line bs)) text i 0 l
-      ∙ ap (λ (b : Bool). F (cond b (line ∷ lines_from [] (drop (i + 1) text)) (lines_from (line ++ get_or text i 0 ∷ []) (drop (i + 1) text))) (cond b (rest_from [] (drop (i + 1) text)) (rest_from (line ++ get_or text i 0 ∷ []) (drop (i + 1) text)))) t
+-- by what `position` answers
+module _ (bs : List ℕ) (r : Option ℕ) (e : r ≡ cond (ltb (line_length bs) (length bs)) (Some (line_length bs)) None) where
+  pub at-None : r ≡ None → lines_of bs ≡ []
+  at-None f = no-lines bs (grind (arith, nat_tests))
 
-module _ {X : Type 0} (F : List (List ℕ) → X) (text : List ℕ) (i : ℕ) (l : i < length text) (line : List ℕ) where
-  pub at-newline : get_or text i 0 ≡ 10 → F (lines_from line (drop i text)) ≡ F (line ∷ lines_from [] (drop (i + 1) text))
-  at-newline e = both-at-newline (λ ls rest. F ls) text i l line e
-
-  pub at_byte : (get_or text i 0 ≡ 10 → ⊥) → F (lines_from line (drop i text)) ≡ F (lines_from (line ++ get_or text i 0 ∷ []) (drop (i + 1) text))
-  at_byte n = both-at-byte (λ ls rest. F ls) text i l line n
+  pub at-Some : (i : ℕ) → r ≡ Some i → lines_of bs ≡ take i bs ∷ lines_of (drop (i + 1) bs)
+  at-Some i f =
+      let h : (line_length bs < length bs) × (i ≡ line_length bs) = grind (arith, nat_tests) in
+      rw h.1 (first-line bs h.0)

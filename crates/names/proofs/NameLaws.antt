@@ -1,6 +1,6 @@
 -- Why the lists that are accepted are the lists of names: a line has no complaint exactly if the names with it are
 -- fine, and so on to the last line.
-use Rattle.std.proofs.Common.{◌≡◌, ℕ, zero, suc, ◌+◌, ◌-◌, ◌<◌, ◌≤◌, Bool, true, false, cond, ltb, leb, List, [], ◌∷◌, ◌++◌, length, get_or, IfSome, Some, None, Option, sym, refl, ap, ◌∙◌, subst, inl, inr, arith, MatchOption}
+use Rattle.std.proofs.Common.{◌≡◌, ℕ, zero, suc, ◌+◌, ◌-◌, ◌<◌, ◌≤◌, Bool, true, false, cond, ltb, leb, List, [], ◌∷◌, ◌++◌, length, get_or, IfSome, Some, None, Option, sym, refl, ap, ◌∙◌, subst, inl, inr, arith, MatchOption, Result}
 use Rattle.std.proofs.ByRecursion.{All-push, All-weaker}
 use Rattle.std.proofs.lemmas.Slice.Eq.{bytes_eq-Decides}
 use Rattle.std.proofs.lemmas.List.{append-nil, append_assoc, length-append, length_push, get_or_append_left, get_or_push}
@@ -8,6 +8,7 @@ use Rattle.std.proofs.lemmas.Bool.{leb-false, lt-leb, ltb-false, le-ltb, cases_l
 use Rattle.std.specs.List.{AllByRecursion}
 use Rattle.std.specs.Str.{bytes_eq}
 use Rattle.scanner.specs.Words.{is_word, all_go_on, goes_on, begins_word}
+use Rattle.faults.specs.declared.fault.Fault.{Fault}
 use Rattle.names.specs.declared.bad_line.BadLine.{BadLine}
 use Rattle.names.specs.declared.bad_line.Complaint.{Complaint}
 use Rattle.names.specs.declared.bad_line.Complaint.TheVariants.{TooMany, TooLong, Reserved}
@@ -108,7 +109,7 @@ module _ (seen : List (List ℕ)) (l : List ℕ) where
             ];
       }
 
-front-all : {X : Type 0} (P : X → Type 0) (xs ys : List X) → AllByRecursion P (xs ++ ys) → AllByRecursion P xs × AllByRecursion P ys
+pub front-all : {X : Type 0} (P : X → Type 0) (xs ys : List X) → AllByRecursion P (xs ++ ys) → AllByRecursion P xs × AllByRecursion P ys
 front-all P [] ys h = (tt, h)
 front-all P (x ∷ xs) ys h = let q = front-all P xs ys h.1 in ((h.0, q.0), q.1)
 
@@ -134,12 +135,12 @@ fine-clear seen l f =
 
 -- From line to line.
 
-written-append : (xs ys : List (List ℕ)) → written (xs ++ ys) ≡ written xs ++ written ys
+pub written-append : (xs ys : List (List ℕ)) → written (xs ++ ys) ≡ written xs ++ written ys
 written-append [] ys = refl
 written-append (x ∷ xs) ys =
     ap (λ (z : List ℕ). x ++ 10 ∷ z) (written-append xs ys) ∙ sym (append_assoc x (10 ∷ written xs) (written ys))
 
-length-written-push : (seen : List (List ℕ)) (l : List ℕ) → length (written (seen ++ l ∷ [])) ≡ suc (length (written seen) + length l)
+pub length-written-push : (seen : List (List ℕ)) (l : List ℕ) → length (written (seen ++ l ∷ [])) ≡ suc (length (written seen) + length l)
 length-written-push seen l =
     let a = length-append (written seen) (l ++ 10 ∷ []) in
     let b = length_push l 10 in
@@ -269,3 +270,15 @@ accepts-law text = accepts-at text (bad_line_of text) refl
 
 pub first-bad-law : (text : List ℕ) → FirstBad text (list_read text)
 first-bad-law text = first-bad-at text (bad_line_of text) refl
+
+-- and so of any answer that is that one
+pub accepts-as : (text : List ℕ) (r : Result (List ℕ) Fault) → r ≡ list_read text → Accepts text r
+accepts-as text r e = subst (Accepts text) (sym e) (accepts-law text)
+
+pub first-bad-as : (text : List ℕ) (r : Result (List ℕ) Fault) → r ≡ list_read text → FirstBad text r
+first-bad-as text r e = subst (FirstBad text) (sym e) (first-bad-law text)
+
+pub few-lines : (text : List ℕ) → bad_line_of text ≡ None → length (lines_of text) ≤ 64
+few-lines text e =
+    let (names, lists) = accepted text e in
+    rw (listed-lines names text lists) lists.fine.few

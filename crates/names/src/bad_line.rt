@@ -27,14 +27,11 @@ pub struct BadLine {
     pub complaint: Complaint,
 }
 
-impl BadLine {
-    pub fn fault(self) -> Fault
-        ensures { result ≡ list_fault self.start }
-    {
-        Fault {
-            layer: Layer::Reader(ReaderCause::BadList),
-            figure: self.start as u64,
-        }
+impl From<BadLine> for Fault {
+    ghost from_gives = { λ bad fault. fault ≡ list_fault bad.start };
+
+    fn from(bad: BadLine) -> Fault {
+        Fault::new(Layer::Reader(ReaderCause::BadList), bad.start)
     }
 }
 
@@ -63,9 +60,7 @@ impl fmt::Display for BadLine {
     ghost output = { λ x. Some (bad_line_words x) };
 
     fn fmt<W: fmt::Write>(&self, f: &mut fmt::Formatter<W>) -> fmt::Result {
-        let fault = self.fault();
-        let line = self.line;
-        let complaint = self.complaint;
-        write!(f, "{fault}\nline {line}: {complaint}")
+        let fault = Fault::from(*self);
+        write!(f, "{fault}\nline {}: {}", self.line, self.complaint)
     }
 }

@@ -1,11 +1,12 @@
 // Judging a name list, line by line.
 ghost use Rattle.std.specs.Prelude.{◌≡◌};
+ghost use Rattle.std.specs.Result.{result_err};
 ghost use Rattle.names.specs.Lines.{lines_of};
 ghost use Rattle.names.specs.Complaints.{shape_complaint, complaint_of, bad_line_of, or_fault};
 ghost use Rattle.names.specs.Names.{Accepts, FirstBad};
 
 use crate::bad_line::{BadLine, Complaint};
-use crate::lines::{NEWLINE, find_line};
+use crate::lines::{Lines, find_line};
 use crate::reserved::is_reserved;
 use scanner::is_word;
 
@@ -18,37 +19,39 @@ pub fn first_bad_line(text: &[u8]) -> Option<BadLine>
     ensures accepts { Accepts text.now (or_fault text.now result) }
     ensures refuses { FirstBad text.now (or_fault text.now result) }
 {
+    judge(text).err()
+}
+
+// Whether the text is a name list; if not, the first bad line.
+pub(crate) fn judge(text: &[u8]) -> Result<(), BadLine>
+    ensures { result_err result ≡ bad_line_of text.now }
+{
     if text.is_empty() {
-        return Some(BadLine {
+        return Err(BadLine {
             start: 0,
             line: 1,
             complaint: Complaint::EmptyList,
         });
     }
     let mut start = 0;
-    let mut line = 1;
-    for (i, b) in text.iter().enumerate() {
-        if *b == NEWLINE {
-            match complaint_of(line - 1, &text[0..start], &text[start..i]) {
-                Some(complaint) => return Some(BadLine {
-                    start,
-                    line,
-                    complaint,
-                }),
-                None => {}
-            }
-            start = i + 1;
-            line += 1;
+    for (count, line) in Lines::new(text).enumerate() {
+        if let Some(complaint) = complaint_of(count, &text[..start], line) {
+            return Err(BadLine {
+                start,
+                line: count + 1,
+                complaint,
+            });
         }
+        start += line.len() + 1;
     }
     if start < text.len() {
-        return Some(BadLine {
+        return Err(BadLine {
             start,
-            line,
+            line: Lines::new(text).count() + 1,
             complaint: Complaint::NoNewline,
         });
     }
-    None
+    Ok(())
 }
 
 // What is wrong with a line after `count` good ones, whose text is `seen`.
@@ -64,10 +67,7 @@ fn complaint_of(count: usize, seen: &[u8], line: &[u8]) -> Option<Complaint>
     } else if is_reserved(line) {
         Some(Complaint::Reserved)
     } else {
-        match find_line(seen, line) {
-            Some(point) => Some(Complaint::Repeated(point)),
-            None => None,
-        }
+        find_line(seen, line).map(Complaint::Repeated)
     }
 }
 
@@ -75,11 +75,9 @@ fn complaint_of(count: usize, seen: &[u8], line: &[u8]) -> Option<Complaint>
 fn shape_complaint(line: &[u8]) -> Complaint
     ensures { result ≡ shape_complaint line.now }
 {
-    if line.is_empty() {
-        Complaint::Blank
-    } else if line[0].is_ascii_digit() {
-        Complaint::DigitFirst
-    } else {
-        Complaint::BadByte
+    match line.first() {
+        None => Complaint::Blank,
+        Some(b) if b.is_ascii_digit() => Complaint::DigitFirst,
+        Some(_) => Complaint::BadByte,
     }
 }

@@ -1,38 +1,38 @@
 // The names of a station's points, as the town lists them.
-ghost use Rattle.std.specs.Prelude.{◌≡◌, length};
+ghost use Rattle.std.specs.Prelude.{◌≡◌, ◌≤◌, length};
 ghost use Rattle.std.specs.List.{slice_get};
 ghost use Rattle.std.specs.Option.{option_map};
 ghost use Rattle.names.specs.Lines.{lines_of, position};
 ghost use Rattle.names.specs.Names.{Accepts, FirstBad, Finds};
-ghost use Rattle.names.specs.Complaints.{list_read, text_of};
 
-use crate::judge::first_bad_line;
-use crate::lines::{find_line, line_at, line_count};
+use crate::judge::judge;
+use crate::lines::{Lines, find_line};
 use faults::Fault;
 
 // A list that was read without refusal, in the caller's own bytes.
 #[derive(Clone, Copy)]
 pub struct NameList<'a> {
     text: &'a [u8],
+    pub ghost few: { length (lines_of text.now) ≤ 64 },
 }
 
 impl<'a> NameList<'a> {
+    ghost use Rattle.names.specs.Complaints.{list_read, text_of};
+
     pub fn read(text: &'a [u8]) -> Result<NameList<'a>, Fault>
         ensures value { text_of result ≡ list_read text.now }
         ensures accepts { Accepts text.now (text_of result) }
         ensures refuses { FirstBad text.now (text_of result) }
     {
-        match first_bad_line(text) {
-            Some(bad) => Err(bad.fault()),
-            None => Ok(NameList { text }),
-        }
+        judge(text)?;
+        Ok(NameList { text })
     }
 
     // How many points the list names.
     pub fn count(&self) -> usize
         ensures { result ≡ length (lines_of self.now.text.now) }
     {
-        line_count(self.text)
+        Lines::new(self.text).count()
     }
 
     // The point that has this name.
@@ -47,6 +47,6 @@ impl<'a> NameList<'a> {
     pub fn name(&self, point: usize) -> Option<&'a [u8]>
         ensures { option_map (λ x. x.now) result ≡ slice_get (lines_of self.now.text.now) point }
     {
-        line_at(self.text, point)
+        Lines::new(self.text).nth(point)
     }
 }

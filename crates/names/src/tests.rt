@@ -2,6 +2,7 @@
 use crate::bad_line::{BadLine, Complaint};
 use crate::judge::first_bad_line;
 use crate::name_list::NameList;
+use faults::Fault;
 use std::alloc::{AllocError, Global};
 use std::test::Fail;
 
@@ -32,8 +33,8 @@ fn lists_that_break_a_rule(rt: HostRuntime) {
             complaint,
         };
         assert_eq!(rt; first_bad_line(text.as_bytes()), Some(bad));
-        assert_eq!(rt; bad.fault().number(), 1);
-        assert_eq!(rt; bad.fault().figure, start as u64);
+        assert_eq!(rt; Fault::from(bad).number(), 1);
+        assert_eq!(rt; Fault::from(bad).figure, start as u64);
     }
 }
 

@@ -3,7 +3,6 @@
 
 mod sheet_task;
 mod task;
-mod word;
 
 pub use sheet_task::SheetTask;
 pub use task::Task;

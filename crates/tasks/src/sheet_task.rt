@@ -2,8 +2,6 @@
 ghost use Rattle.std.specs.Prelude.{◌≡◌};
 ghost use Rattle.tasks.specs.SheetTasks.{sheet_task_named, takes_of};
 
-use crate::word::same;
-
 #[derive(Clone, Copy)]
 pub enum SheetTask {
     Check,
@@ -16,16 +14,12 @@ impl SheetTask {
     pub fn named(word: &str) -> Option<SheetTask>
         ensures { result ≡ sheet_task_named word.now }
     {
-        if same(word, "check") {
-            Some(SheetTask::Check)
-        } else if same(word, "screen") {
-            Some(SheetTask::Screen)
-        } else if same(word, "compile") {
-            Some(SheetTask::Compile)
-        } else if same(word, "list") {
-            Some(SheetTask::List)
-        } else {
-            None
+        match word {
+            "check" => Some(SheetTask::Check),
+            "screen" => Some(SheetTask::Screen),
+            "compile" => Some(SheetTask::Compile),
+            "list" => Some(SheetTask::List),
+            _ => None,
         }
     }
 

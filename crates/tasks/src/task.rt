@@ -2,8 +2,6 @@
 ghost use Rattle.std.specs.Prelude.{◌≡◌};
 ghost use Rattle.tasks.specs.Tasks.{task_named, operands_of};
 
-use crate::word::same;
-
 #[derive(Clone, Copy)]
 pub enum Task {
     Help,
@@ -15,14 +13,11 @@ impl Task {
     pub fn named(word: &str) -> Option<Task>
         ensures { result ≡ task_named word.now }
     {
-        if same(word, "--help") {
-            Some(Task::Help)
-        } else if same(word, "--version") {
-            Some(Task::Version)
-        } else if same(word, "names") {
-            Some(Task::Names)
-        } else {
-            None
+        match word {
+            "--help" => Some(Task::Help),
+            "--version" => Some(Task::Version),
+            "names" => Some(Task::Names),
+            _ => None,
         }
     }
 
