@@ -67,6 +67,10 @@ abbrev pub Measures : {V : Type 0} → (Sheet → V) → ℕ → List Row → �
 Measures f c rows slots r =
     (t : Sheet) → sheet_rows t ≡ rows → SheetOver c t → c ≤ 64 → length rows ≤ slots → length rows ≤ 2048 → r ≡ Ok (f t)
 
+-- this measure is what the algebra makes of any tree whose rows are a table
+abbrev pub Exact : {V : Type 0} → Sums V → Rest V → (Sheet → V) → Type 0
+Exact s a f = (c : ℕ) (t : Sheet) → SheetOver c t → c ≤ 64 → length (sheet_rows t) ≤ 2048 → sheet_value s a t ≡ f t
+
 -- the fold of a table is its tree's value
 abbrev pub Folds : {V : Type 0} → Sums V → Rest V → ℕ → List Row → ℕ → Result V Fault → Type 0
 Folds s a c rows slots r = Measures (sheet_value s a) c rows slots r

@@ -1,7 +1,8 @@
 // Lengths, depths and points of small tables worked out by hand, and what a fold leaves in its slots.
-use crate::depths::stack_depth;
-use crate::lengths::code_length;
-use crate::point_sets::points_used;
+use crate::depths::StackDepth;
+use crate::lengths::CodeLength;
+use crate::measure::Measure;
+use crate::point_sets::PointsUsed;
 use faults::{Fault, Layer, TableCause};
 use std::alloc::{AllocError, Global};
 use std::test::Fail;
@@ -86,9 +87,9 @@ fn rows_of(heap: Global, table: &[Brief]) -> Result<Vec<Row>, AllocError> {
 
 fn measure(heap: Global, table: &[Brief]) -> Result<(u32, u32, u64), Fail> {
     let rows = rows_of(heap, table)?;
-    let length = code_length(rows.as_slice(), 64, &mut [0; 13])?;
-    let depth = stack_depth(rows.as_slice(), 64, &mut [0; 13])?;
-    let points = points_used(rows.as_slice(), 64, &mut [0; 13])?;
+    let length = CodeLength.measure(rows.as_slice(), 64, &mut [0; 13])?;
+    let depth = StackDepth.measure(rows.as_slice(), 64, &mut [0; 13])?;
+    let points = PointsUsed.measure(rows.as_slice(), 64, &mut [0; 13])?;
     Ok((length, depth, points))
 }
 
@@ -106,23 +107,26 @@ fn measures(rt: HostRuntime) -> Result<(), Fail> {
 fn slots_are_used_and_spared(rt: HostRuntime) -> Result<(), Fail> {
     let rows = rows_of(rt.alloc(), &SUM)?;
     let mut exact = [9u32; 4];
-    assert_eq!(rt; code_length(rows.as_slice(), 3, &mut exact), Ok(5));
+    assert_eq!(rt; CodeLength.measure(rows.as_slice(), 3, &mut exact), Ok(5));
     let mut more = [9u32; 6];
-    assert_eq!(rt; stack_depth(rows.as_slice(), 3, &mut more), Ok(2));
+    assert_eq!(rt; StackDepth.measure(rows.as_slice(), 3, &mut more), Ok(2));
     assert_eq!(rt; (more[4], more[5]), (9, 9));
     let mut fewer = [9u32; 3];
     let needed = Fault {
         layer: Layer::Table(TableCause::TooFewSlots),
         figure: 4,
     };
-    assert_eq!(rt; code_length(rows.as_slice(), 3, &mut fewer), Err(needed));
+    assert_eq!(rt;
+        CodeLength.measure(rows.as_slice(), 3, &mut fewer),
+        Err(needed)
+    );
     assert_eq!(rt; fewer, [9, 9, 9]);
     Ok(())
 }
 
 // The refusal's number and figure, or zeros.
 fn refusal(rows: &[Row], points: usize, slots: &mut [u64]) -> (u8, u64) {
-    match points_used(rows, points, slots) {
+    match PointsUsed.measure(rows, points, slots) {
         Ok(_) => (0, 0),
         Err(fault) => (fault.number(), fault.figure),
     }

@@ -1,7 +1,7 @@
 // `rulesheet check [--code] NAMES SHEET`
 use crate::listing::{name_of, print_code};
 use crate::{Outcome, code, input};
-use folds::{code_length, points_used, stack_depth};
+use folds::{CodeLength, Measure, PointsUsed, StackDepth};
 use names::NameList;
 use std::io;
 use tables::{Kind, Row};
@@ -89,9 +89,9 @@ fn measures(rt: &HostRuntime, names: &NameList, rows: &[Row]) -> io::Result<Outc
     let points = names.count();
     let mut slots = vec![in rt.alloc(); 0u32; rows.len()]?;
     let mut sets = vec![in rt.alloc(); 0u64; rows.len()]?;
-    let length = code_length(rows, points, slots.as_mut_slice());
-    let depth = stack_depth(rows, points, slots.as_mut_slice());
-    let used = points_used(rows, points, sets.as_mut_slice());
+    let length = CodeLength.measure(rows, points, slots.as_mut_slice());
+    let depth = StackDepth.measure(rows, points, slots.as_mut_slice());
+    let used = PointsUsed.measure(rows, points, sets.as_mut_slice());
     let (Ok(length), Ok(depth), Ok(used)) = (length, depth, used) else {
         return Ok(Outcome::Refused);
     };

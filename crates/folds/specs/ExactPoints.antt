@@ -5,7 +5,7 @@ use Rattle.arith.specs.declared.operator.Operator.TheVariants as operator
 use Rattle.tables.specs.declared.row.Row.{Row}
 use Rattle.tables.specs.Trees.{Sum, number, name, work, both, either, Condition, truth, compare, negate, connect, Command, set, when, choose, while, Sheet, only, joint}
 use Rattle.tables.specs.Values.{sum_value, condition_value, command_value, sheet_value}
-use Rattle.folds.specs.Folds.{Folds, Measures}
+use Rattle.folds.specs.Folds.{Exact}
 use lib.Bits.{bit_or}
 use Rattle.std.proofs.lemmas.Bool.{cond-true, lt-ltb}
 use Rattle.tables.specs.Tables.{SumOver, ConditionOver, CommandOver, SheetOver}
@@ -45,5 +45,5 @@ module _ (c : ℕ) (few : c ≤ 64) where
     same-sheet (only d) w = same-command d w
     same-sheet (joint q d t) w = or_same _ _ _ _ (same-command d w.0) (same-sheet t w.1)
 
-pub exact : (c : ℕ) (rows : List Row) (slots : ℕ) (r : Result ℕ Fault) → Folds point_sums point_rest c rows slots r → Measures sheet_points c rows slots r
-exact c rows slots r h t listed over few l m = h t listed over few l m ∙ ap Ok (same-sheet c few t over)
+pub exact_points : Exact point_sums point_rest sheet_points
+exact_points c t over few m = same-sheet c few t over

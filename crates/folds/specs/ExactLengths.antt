@@ -8,7 +8,7 @@ use Rattle.tables.specs.Trees.{Sum, number, name, work, both, either, Condition,
 use Rattle.tables.specs.Rows.{sum_size, condition_size, command_size, sheet_size}
 use Rattle.tables.specs.Values.{sum_value, condition_value, command_value, sheet_value}
 use Rattle.tables.proofs.OfSort.{length-in}
-use Rattle.folds.specs.Folds.{Folds, Measures}
+use Rattle.folds.specs.Folds.{Exact}
 use Rattle.folds.specs.CodeLengths.{plus, length_sums, length_rest, sum_length, condition_length, command_length, sheet_length}
 
 capped-one : (k x a : ℕ) → x ≡ min a 4294967295 → plus x k ≡ min (a + k) 4294967295
@@ -75,10 +75,9 @@ mutual
   bound-sheet (joint q c t) = let x = bound-command c in let y = bound-sheet t in omega arith
 
 -- no table comes near the largest number
-pub exact : (c : ℕ) (rows : List Row) (slots : ℕ) (r : Result ℕ Fault) → Folds length_sums length_rest c rows slots r → Measures sheet_length c rows slots r
-exact c rows slots r h t listed over few l m =
+pub exact_lengths : Exact length_sums length_rest sheet_length
+exact_lengths c t over few m =
     let n = length-in sort.Sheet t in
     let b = bound-sheet t in
-    let e = ap length listed in
     let small : min (sheet_length t) 4294967295 ≡ sheet_length t = omega arith in
-    h t listed over few l m ∙ ap Ok (capped-sheet t ∙ small)
+    capped-sheet t ∙ small

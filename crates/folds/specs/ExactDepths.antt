@@ -8,7 +8,7 @@ use Rattle.tables.specs.Trees.{Sum, number, name, work, both, either, Condition,
 use Rattle.tables.specs.Rows.{sum_size, condition_size, command_size, sheet_size}
 use Rattle.tables.specs.Values.{sum_value, condition_value, command_value, sheet_value}
 use Rattle.tables.proofs.OfSort.{length-in}
-use Rattle.folds.specs.Folds.{Folds, Measures}
+use Rattle.folds.specs.Folds.{Exact}
 use Rattle.folds.specs.StackDepths.{above, depth_sums, depth_rest, sum_depth, condition_depth, command_depth, sheet_depth}
 
 capped-two : (x y a b : ℕ) → x ≡ min a 4294967295 → y ≡ min b 4294967295 → above x y ≡ min (max a (b + 1)) 4294967295
@@ -66,10 +66,9 @@ mutual
   bound-sheet (joint q c t) = let x = bound-command c in let y = bound-sheet t in omega arith
 
 -- no table comes near the largest number
-pub exact : (c : ℕ) (rows : List Row) (slots : ℕ) (r : Result ℕ Fault) → Folds depth_sums depth_rest c rows slots r → Measures sheet_depth c rows slots r
-exact c rows slots r h t listed over few l m =
+pub exact_depths : Exact depth_sums depth_rest sheet_depth
+exact_depths c t over few m =
     let n = length-in sort.Sheet t in
     let b = bound-sheet t in
-    let e = ap length listed in
     let small : min (sheet_depth t) 4294967295 ≡ sheet_depth t = omega arith in
-    h t listed over few l m ∙ ap Ok (capped-sheet t ∙ small)
+    capped-sheet t ∙ small
