@@ -1,7 +1,7 @@
 // How deep the stack becomes when a table's code runs.
 ghost use Rattle.std.specs.Prelude.{◌≡◌};
 ghost use Rattle.folds.specs.Nodes.{node_value};
-ghost use Rattle.folds.specs.StackDepths.{above, depth_sums, depth_rest, sheet_depth};
+ghost use Rattle.folds.specs.StackDepths.{depth_sums, depth_rest, sheet_depth};
 ghost use Rattle.folds.specs.ExactDepths.{exact_depths};
 
 use crate::algebra::Algebra;
@@ -23,6 +23,7 @@ impl Algebra for StackDepth {
     fn value(&self, _row: Row, node: Node<u32>) -> u32
         ensures { result ≡ node_value depth_sums depth_rest _row node }
     {
+        // The right part of a sum or a condition is worked out above the left one's value.
         match node {
             Node::Number | Node::Name | Node::Truth => 1,
             Node::Add(left, right)
@@ -31,7 +32,7 @@ impl Algebra for StackDepth {
             | Node::Div(left, right)
             | Node::Compare(left, right)
             | Node::And(left, right)
-            | Node::Or(left, right) => over(left, right),
+            | Node::Or(left, right) => left.max(right.saturating_add(1)),
             Node::Not(part) | Node::Set(part) => part,
             Node::If(first, second) | Node::While(first, second) | Node::Joint(first, second) => {
                 first.max(second)
@@ -45,10 +46,4 @@ impl Measure for StackDepth {
     ghost of_sheet = { sheet_depth };
 
     ghost exact = { exact_depths };
-}
-// The right part is worked out above the left one's value.
-fn over(left: u32, right: u32) -> u32
-    ensures { result ≡ above left right }
-{
-    left.max(right.saturating_add(1))
 }

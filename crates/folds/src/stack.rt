@@ -2,8 +2,8 @@
 ghost use Rattle.std.specs.Prelude.{◌≡◌, ℕ, ◌+◌, ◌-◌, ◌<◌, ◌≤◌, ◌∷◌, length, drop, Some, slice_get};
 ghost use Rattle.folds.specs.Stacks.{top_first};
 
-// The first `held` slots hold values, the last of these being the top. The clauses named `lender` are bookkeeping:
-// they say that the slice is still the caller's own.
+// The first `held` slots hold values, the last of these being the top. The slice is lent and its length counted beside
+// it, since the library uses no heap. The clauses named `lender` say that it is still the caller's own.
 #[derive(Drop)]
 pub(crate) struct Stack<'a, T> {
     slots: &'a mut [T],
@@ -30,7 +30,8 @@ impl<'a, T: Copy> Stack<'a, T> {
 
     // One value in the place of so many from the top.
     pub(crate) fn replace(&mut self, taken: usize, value: T)
-        requires { (taken ≤ self.old.held) × (self.old.held - taken < length self.old.slots.now) }
+        requires parts { taken ≤ self.old.held }
+        requires room { self.old.held - taken < length self.old.slots.now }
         ensures items { top_first self.new.held self.new.slots.now ≡ value ∷ drop taken (top_first self.old.held self.old.slots.now) }
         ensures held { self.new.held ≤ self.old.held + 1 }
         ensures size { length self.new.slots.now ≡ length self.old.slots.now }

@@ -32,7 +32,7 @@ replace-requires g c =
     let l = length-top stack.slots.now stack.held stack.within in
     let e = enough g.A.Algebra.sums g.A.Algebra.rest c.args.rows.now T c.loop-row.row-index _ c.loop-row.invariant.passes c.loop-row-test.true in
     let long = ap length c.new-stack.ensures.slots in
-    (omega arith, omega arith)
+    record { parts = omega arith; room = omega arith }
 
 pub loop-row-preserved : goal.loop-row-preserved
 loop-row-preserved g c =
