@@ -1,5 +1,5 @@
 // A stack of values in a lent slice: one for every kind of value.
-ghost use Rattle.std.specs.Prelude.{◌≡◌, ℕ, ◌+◌, ◌-◌, ◌<◌, ◌≤◌, ◌∷◌, length, drop, Some, slice_get};
+ghost use Rattle.std.specs.Prelude.{◌≡◌, ℕ, ◌+◌, ◌-◌, ◌<◌, ◌≤◌, [], ◌∷◌, length, drop, Some, slice_get};
 ghost use Rattle.folds.specs.Stacks.{top_first};
 
 // The first `held` slots hold values, the last of these being the top. The slice is lent and its length counted beside
@@ -13,6 +13,7 @@ pub(crate) struct Stack<'a, T> {
 
 impl<'a, T: Copy> Stack<'a, T> {
     pub(crate) fn new(slots: &'a mut [T]) -> Stack<'a, T>
+        ensures items { top_first result.held result.slots.now ≡ [] }
         ensures held { result.held ≡ 0 }
         ensures slots { result.slots.now ≡ slots.old }
         ensures lender { result.slots.ghost_name ≡ slots.entry.ghost_name }

@@ -2,20 +2,9 @@ use Rattle.std.proofs.Common.{◌≡◌, ℕ, ◌+◌, ◌≤◌, slice_get, Lis
 use Rattle.tables.specs.Values.{sheet_value}
 use Rattle.tables.specs.Passes.{passes}
 use Rattle.folds.specs.Stacks.{top_first}
-use Rattle.folds.proofs.Tops.{top-none, length-top}
+use Rattle.folds.proofs.Tops.{length-top}
 use Rattle.folds.proofs.FoldLaws.{enough, onward, alone, leaves, folds}
 use Rattle.folds.proofs.folding.fold.Goals as goal
-
-pub loop-row-init : goal.loop-row-init
-loop-row-init g c =
-    let stack = c.new-stack.result in
-    record {
-      passes = ap (passes g.A.Algebra.sums g.A.Algebra.rest c.args.rows.now) (ap (λ (n : ℕ). top_first n stack.slots.now) c.new-stack.ensures.held ∙ top-none stack.slots.now);
-      held = omega arith;
-      size = refl;
-      spare = refl;
-      lender = refl;
-    }
 
 pub on-requires : goal.on-requires
 on-requires g c =
