@@ -19,24 +19,21 @@ use Rattle.folds.specs.declared.node.Node.TheVariants as node
 use Rattle.folds.specs.Nodes.{node_value, over_one, over_two, over_three, node_of}
 use Rattle.folds.specs.Folds.{part_count, too_few_slots, left, folded, spared, fold_leaves, Folds}
 
-none-some : {X : Type 0} {x : X} → ◌≡◌ {A = Option X} None (Some x) → ⊥
-none-some e = let z : ◌≡◌ {A = ℕ} 0 1 = cc in omega arith
-
 then_some : {X Y : Type 0} (o : Option X) (f : X → Option Y) (y : Y) → and_then o f ≡ Some y → (x : X) × (o ≡ Some x)
-then_some None f y e = absurd (none-some e)
+then_some None f y e = absurd (cc)
 then_some (Some x) f y e = (x, refl)
 
 module _ {V : Type 0} where
   one-enough : (f : V → V) (st w : List V) → on_one f st ≡ Some w → 1 ≤ length st
-  one-enough f [] w e = absurd (none-some e)
+  one-enough f [] w e = absurd (cc)
   one-enough f (x ∷ st) w e = omega arith
 
   two-enough : (f : V → V → V) (st w : List V) → on_two f st ≡ Some w → 2 ≤ length st
-  two-enough f [] w e = absurd (none-some e)
+  two-enough f [] w e = absurd (cc)
   two-enough f (y ∷ st) w e = let h = one-enough (λ x. f x y) st w e in omega arith
 
   three-enough : (f : V → V → V → V) (st w : List V) → on_three f st ≡ Some w → 3 ≤ length st
-  three-enough f [] w e = absurd (none-some e)
+  three-enough f [] w e = absurd (cc)
   three-enough f (z ∷ st) w e = let h = two-enough (λ x y. f x y z) st w e in omega arith
 
 module _ {V : Type 0} (s : Sums V) (a : Rest V) where
@@ -70,20 +67,11 @@ module _ {V : Type 0} (s : Sums V) (a : Rest V) where
     step-at : (k : Kind) (st : List V) → passed s a k r st ≡ option_map (λ n. node_value s a r n ∷ drop (part_count k) st) (node_of k st)
     step-at Number st = refl
     step-at Name st = refl
-    step-at Add st = two-step node.Add st
-    step-at Sub st = two-step node.Sub st
-    step-at Mul st = two-step node.Mul st
-    step-at Div st = two-step node.Div st
     step-at Truth st = refl
-    step-at Compare st = two-step node.Compare st
-    step-at Not st = one-step node.Not st
-    step-at And st = two-step node.And st
-    step-at Or st = two-step node.Or st
-    step-at Set st = one-step node.Set st
-    step-at If st = two-step node.If st
-    step-at IfElse st = three-step node.IfElse st
-    step-at While st = two-step node.While st
-    step-at Joint st = two-step node.Joint st
+    step-at Not st = one-step _ st
+    step-at Set st = one-step _ st
+    step-at IfElse st = three-step _ st
+    step-at _ st = two-step _ st
 
   pub tree-passes : (t : Sheet) → passes s a (sheet_rows t) [] ≡ Some (sheet_value s a t ∷ [])
   tree-passes t = ap (λ (rs : List Row). passes s a rs []) (sym (append-nil (sheet_rows t))) ∙ pass-sheet s a t [] []

@@ -1,83 +1,62 @@
--- On a table, code lengths counted in 32 bits are the code lengths.
-use Rattle.std.proofs.Common.{◌≡◌, ℕ, ◌+◌, ◌*◌, ◌≤◌, min, List, length, Ok, Result, refl, ap, ◌∙◌, arith}
-use Rattle.faults.specs.declared.fault.Fault.{Fault}
+-- That no table's code length comes near the largest 32-bit number, so that what the algebra counts is the length: the
+-- law that `CodeLength` keeps as a measure.
+use Rattle.std.proofs.Common.{◌≡◌, ℕ, ◌+◌, ◌*◌, ◌≤◌, length, refl, ◌∙◌, arith}
 use Rattle.arith.specs.declared.operator.Operator.TheVariants as operator
-use Rattle.tables.specs.declared.row.Row.{Row}
 use Rattle.tables.specs.declared.sort.Sort.TheVariants as sort
 use Rattle.tables.specs.Trees.{Sum, number, name, work, both, either, Condition, truth, compare, negate, connect, Command, set, when, choose, while, Sheet, only, joint}
 use Rattle.tables.specs.Rows.{sum_size, condition_size, command_size, sheet_size}
 use Rattle.tables.specs.Values.{sum_value, condition_value, command_value, sheet_value}
 use Rattle.tables.proofs.OfSort.{length-in}
 use Rattle.folds.specs.Folds.{Exact}
-use Rattle.folds.specs.CodeLengths.{plus, length_sums, length_rest, sum_length, condition_length, command_length, sheet_length}
+use Rattle.folds.specs.CodeLengths.{length_sums, length_rest, sum_length, condition_length, command_length, sheet_length}
 
-capped-one : (k x a : ℕ) → x ≡ min a 4294967295 → plus x k ≡ min (a + k) 4294967295
-capped-one k x a e = omega arith
+same-sum : (t : Sum) → sum_length t ≤ 4294967295 → sum_value length_sums t ≡ sum_length t
+same-sum (number q v) h = refl
+same-sum (name q p) h = refl
+same-sum (work q operator.Add l r) h = omega (arith, same-sum l, same-sum r)
+same-sum (work q operator.Sub l r) h = omega (arith, same-sum l, same-sum r)
+same-sum (work q operator.Mul l r) h = omega (arith, same-sum l, same-sum r)
+same-sum (work q operator.Div l r) h = omega (arith, same-sum l, same-sum r)
 
-capped-by : (k x y a b : ℕ) → x ≡ min a 4294967295 → y ≡ min b 4294967295 → plus (plus x y) k ≡ min (a + b + k) 4294967295
-capped-by k x y a b e f = omega arith
-
-capped-two : (x y a b : ℕ) → x ≡ min a 4294967295 → y ≡ min b 4294967295 → plus (plus x y) 1 ≡ min (a + b + 1) 4294967295
-capped-two x y a b e f = capped-by 1 x y a b e f
-
-capped-joint : (x y a b : ℕ) → x ≡ min a 4294967295 → y ≡ min b 4294967295 → plus (plus x y) 0 ≡ min (a + b) 4294967295
-capped-joint x y a b e f = omega arith
-
-capped-three : (x y z a b d : ℕ) → x ≡ min a 4294967295 → y ≡ min b 4294967295 → z ≡ min d 4294967295 → plus (plus (plus x y) 2) z ≡ min (a + b + 2 + d) 4294967295
-capped-three x y z a b d e f g = omega arith
-
-capped-sum : (t : Sum) → sum_value length_sums t ≡ min (sum_length t) 4294967295
-capped-sum (number q v) = refl
-capped-sum (name q p) = refl
-capped-sum (work q operator.Add l r) = capped-two _ _ _ _ (capped-sum l) (capped-sum r)
-capped-sum (work q operator.Sub l r) = capped-two _ _ _ _ (capped-sum l) (capped-sum r)
-capped-sum (work q operator.Mul l r) = capped-two _ _ _ _ (capped-sum l) (capped-sum r)
-capped-sum (work q operator.Div l r) = capped-two _ _ _ _ (capped-sum l) (capped-sum r)
-
-capped-condition : (t : Condition) → condition_value length_sums length_rest t ≡ min (condition_length t) 4294967295
-capped-condition (truth q b) = refl
-capped-condition (compare q k l r) = capped-two _ _ _ _ (capped-sum l) (capped-sum r)
-capped-condition (negate q c) = capped-one 1 _ _ (capped-condition c)
-capped-condition (connect q both c d) = capped-two _ _ _ _ (capped-condition c) (capped-condition d)
-capped-condition (connect q either c d) = capped-two _ _ _ _ (capped-condition c) (capped-condition d)
+same-condition : (t : Condition) → condition_length t ≤ 4294967295 → condition_value length_sums length_rest t ≡ condition_length t
+same-condition (truth q b) h = refl
+same-condition (compare q k l r) h = omega (arith, same-sum l, same-sum r)
+same-condition (negate q c) h = omega (arith, same-condition c)
+same-condition (connect q both c d) h = omega (arith, same-condition c, same-condition d)
+same-condition (connect q either c d) h = omega (arith, same-condition c, same-condition d)
 
 mutual
-  capped-command : (t : Command) → command_value length_sums length_rest t ≡ min (command_length t) 4294967295
-  capped-command (set q p e) = capped-one 2 _ _ (capped-sum e)
-  capped-command (when q c t) = capped-by 1 _ _ _ _ (capped-condition c) (capped-sheet t)
-  capped-command (choose q c t u) = capped-three _ _ _ _ _ _ (capped-condition c) (capped-sheet t) (capped-sheet u)
-  capped-command (while q c t) = capped-by 2 _ _ _ _ (capped-condition c) (capped-sheet t)
+  same-command : (t : Command) → command_length t ≤ 4294967295 → command_value length_sums length_rest t ≡ command_length t
+  same-command (set q p e) h = omega (arith, same-sum e)
+  same-command (when q c t) h = omega (arith, same-condition c, same-sheet t)
+  same-command (choose q c t u) h = omega (arith, same-condition c, same-sheet t, same-sheet u)
+  same-command (while q c t) h = omega (arith, same-condition c, same-sheet t)
 
-  capped-sheet : (t : Sheet) → sheet_value length_sums length_rest t ≡ min (sheet_length t) 4294967295
-  capped-sheet (only c) = capped-command c
-  capped-sheet (joint q c t) = capped-joint _ _ _ _ (capped-command c) (capped-sheet t)
+  same-sheet : (t : Sheet) → sheet_length t ≤ 4294967295 → sheet_value length_sums length_rest t ≡ sheet_length t
+  same-sheet (only c) h = same-command c h
+  same-sheet (joint q c t) h = omega (arith, same-command c, same-sheet t)
 
 bound-sum : (t : Sum) → sum_length t ≤ 2 * sum_size t
 bound-sum (number q v) = omega arith
 bound-sum (name q p) = omega arith
-bound-sum (work q o l r) = let x = bound-sum l in let y = bound-sum r in omega arith
+bound-sum (work q o l r) = omega (arith, bound-sum l, bound-sum r)
 
 bound-condition : (t : Condition) → condition_length t ≤ 2 * condition_size t
 bound-condition (truth q b) = omega arith
-bound-condition (compare q j l r) = let x = bound-sum l in let y = bound-sum r in omega arith
-bound-condition (negate q c) = let x = bound-condition c in omega arith
-bound-condition (connect q j c d) = let x = bound-condition c in let y = bound-condition d in omega arith
+bound-condition (compare q j l r) = omega (arith, bound-sum l, bound-sum r)
+bound-condition (negate q c) = omega (arith, bound-condition c)
+bound-condition (connect q j c d) = omega (arith, bound-condition c, bound-condition d)
 
 mutual
   bound-command : (t : Command) → command_length t ≤ 2 * command_size t
-  bound-command (set q p e) = let x = bound-sum e in omega arith
-  bound-command (when q c t) = let x = bound-condition c in let y = bound-sheet t in omega arith
-  bound-command (choose q c t u) = let x = bound-condition c in let y = bound-sheet t in let z = bound-sheet u in omega arith
-  bound-command (while q c t) = let x = bound-condition c in let y = bound-sheet t in omega arith
+  bound-command (set q p e) = omega (arith, bound-sum e)
+  bound-command (when q c t) = omega (arith, bound-condition c, bound-sheet t)
+  bound-command (choose q c t u) = omega (arith, bound-condition c, bound-sheet t, bound-sheet u)
+  bound-command (while q c t) = omega (arith, bound-condition c, bound-sheet t)
 
   bound-sheet : (t : Sheet) → sheet_length t ≤ 2 * sheet_size t
   bound-sheet (only c) = bound-command c
-  bound-sheet (joint q c t) = let x = bound-command c in let y = bound-sheet t in omega arith
+  bound-sheet (joint q c t) = omega (arith, bound-command c, bound-sheet t)
 
--- no table comes near the largest number
 pub exact_lengths : Exact length_sums length_rest sheet_length
-exact_lengths c t over few m =
-    let n = length-in sort.Sheet t in
-    let b = bound-sheet t in
-    let small : min (sheet_length t) 4294967295 ≡ sheet_length t = omega arith in
-    capped-sheet t ∙ small
+exact_lengths c t over few m = same-sheet t (omega (arith, length-in sort.Sheet t, bound-sheet t))
