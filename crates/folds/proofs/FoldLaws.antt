@@ -1,5 +1,5 @@
 -- Why a fold is the tree's value, and why its pass never finds the stack too empty.
-use Rattle.std.proofs.Common.{◌≡◌, ℕ, ◌+◌, ◌<◌, ◌≤◌, Bool, true, cond, ltb, leb, List, [], ◌∷◌, length, get_or, drop, Some, None, Ok, Err, Option, Result, option_map, sym, refl, ap, ◌∙◌, subst, append-nil, arith}
+use Rattle.std.proofs.Common.{◌≡◌, ℕ, ◌+◌, ◌<◌, ◌≤◌, Bool, true, cond, ltb, leb, List, [], ◌∷◌, length, get_or, drop, Some, None, Ok, Err, Option, Result, option_map, slice_get, sym, refl, ap, ◌∙◌, subst, append-nil, arith}
 use Rattle.std.proofs.lemmas.List.{at_drop_more, at_drop_all}
 use Rattle.std.proofs.lemmas.Bool.{le-ltb, le-leb, or_from}
 use Rattle.faults.specs.declared.fault.Fault.{Fault}
@@ -78,9 +78,19 @@ module _ {V : Type 0} (s : Sums V) (a : Rest V) where
 
   -- a pass over the rows of a table, at its row i with the stack st
 
-  module _ {c : ℕ} (rows : List Row) (t : Table c rows) where
-    table-passes : passes s a rows [] ≡ Some (sheet_value s a t.tree ∷ [])
-    table-passes = subst (λ (rs : List Row). passes s a rs [] ≡ Some (sheet_value s a t.tree ∷ [])) t.listed (tree-passes t.tree)
+  module _ {c : ℕ} (rows : List Row) (w : Table c rows × (c ≤ 64)) where
+    table-passes : passes s a rows [] ≡ Some (sheet_value s a w.0.tree ∷ [])
+    table-passes =
+        subst (λ (rs : List Row). passes s a rs [] ≡ Some (sheet_value s a w.0.tree ∷ [])) w.0.listed (tree-passes w.0.tree)
+
+    -- what a fold answers
+    folded-table : (slots : ℕ) → length rows ≤ slots → length rows ≤ 2048 → folded s a c rows slots ≡ Ok (sheet_value s a w.0.tree)
+    folded-table slots l m =
+        ap (λ (b : Bool). cond b (Err (too_few_slots (length rows))) (cond (is_table c rows) (cond (leb c 64) (left (passes s a rows [])) (Err (too_many_points c))) (Err no_table_fault)))
+        (or_from _ _ (le-ltb slots (length rows) l) (le-ltb 2048 (length rows) m))
+        ∙ ap (λ (b : Bool). cond b (cond (leb c 64) (left (passes s a rows [])) (Err (too_many_points c))) (Err no_table_fault)) (accepts-table c rows w.0)
+        ∙ ap (λ (b : Bool). cond b (left (passes s a rows [])) (Err (too_many_points c))) (le-leb c 64 w.1)
+        ∙ ap left table-passes
 
     module _ (i : ℕ) (st : List V) (way : passes s a (drop i rows) st ≡ passes s a rows []) where
       next_row : i < length rows → and_then (passed s a (get_or rows i blank).kind (get_or rows i blank) st) (passes s a (drop (i + 1) rows)) ≡ passes s a rows []
@@ -95,33 +105,26 @@ module _ {V : Type 0} (s : Sums V) (a : Rest V) where
       -- one value in the place of as many as the row has parts
       pub onward : i < length rows → (n : Node V) → Some n ≡ node_of (get_or rows i blank).kind st → (v : V) → v ≡ node_value s a (get_or rows i blank) n → (k : ℕ) → k ≡ part_count (get_or rows i blank).kind → (after : List V) → after ≡ v ∷ drop k st → passes s a (drop (i + 1) rows) after ≡ passes s a rows []
       onward l n e v f k g after h =
-          ap (passes s a (drop (i + 1) rows)) (h ∙ ap (λ (w : V). w ∷ drop k st) f ∙ ap (λ (m : ℕ). node_value s a (get_or rows i blank) n ∷ drop m st) g)
+          ap (passes s a (drop (i + 1) rows)) (h ∙ ap (λ (x : V). x ∷ drop k st) f ∙ ap (λ (m : ℕ). node_value s a (get_or rows i blank) n ∷ drop m st) g)
           ∙ ap (λ o. and_then o (passes s a (drop (i + 1) rows))) (ap (option_map _) e ∙ sym (step-at (get_or rows i blank) (get_or rows i blank).kind st))
           ∙ next_row l
 
       -- at the end the tree's value is there alone
-      pub alone : length rows ≤ i → st ≡ sheet_value s a t.tree ∷ []
+      pub alone : length rows ≤ i → st ≡ sheet_value s a w.0.tree ∷ []
       alone l =
           let e = sym (at_drop_all (λ (rs : List Row). passes s a rs st) rows i l) ∙ way ∙ table-passes in
           cc
 
-    -- what a fold answers
-    pub folded-table : (slots : ℕ) → c ≤ 64 → length rows ≤ slots → length rows ≤ 2048 → folded s a c rows slots ≡ Ok (sheet_value s a t.tree)
-    folded-table slots few l m =
-        ap (λ (b : Bool). cond b (Err (too_few_slots (length rows))) (cond (is_table c rows) (cond (leb c 64) (left (passes s a rows [])) (Err (too_many_points c))) (Err no_table_fault)))
-        (or_from _ _ (le-ltb slots (length rows) l) (le-ltb 2048 (length rows) m))
-        ∙ ap (λ (b : Bool). cond b (cond (leb c 64) (left (passes s a rows [])) (Err (too_many_points c))) (Err no_table_fault)) (accepts-table c rows t)
-        ∙ ap (λ (b : Bool). cond b (left (passes s a rows [])) (Err (too_many_points c))) (le-leb c 64 few)
-        ∙ ap left table-passes
-
-    -- the answer and the slots that stay, in one
-    pub leaves : (after now slots : List V) (v : V) → c ≤ 64 → length rows ≤ length slots → length rows ≤ 2048 → v ≡ sheet_value s a t.tree → after ≡ now → drop (length rows) now ≡ drop (length rows) slots → (Ok v, spared (length rows) (Ok v) after) ≡ fold_leaves s a c rows slots
-    leaves after now slots v few l m e same f =
-        ap (λ (rest : List V). (Ok v, rest)) (ap (drop (length rows)) same ∙ f)
-        ∙ ap (λ (r : Result V Fault). (r, spared (length rows) r slots)) (ap Ok e ∙ sym (folded-table (length slots) few l m))
+      -- it is the answer; and the slots that stay, in one
+      pub leaves : length rows ≤ i → (v : V) → Some v ≡ slice_get st 0 → (after now slots : List V) → length rows ≤ length slots → length rows ≤ 2048 → after ≡ now → drop (length rows) now ≡ drop (length rows) slots → (Ok v, spared (length rows) (Ok v) after) ≡ fold_leaves s a c rows slots
+      leaves l v e after now slots room m same f =
+          let one = ap (λ (xs : List V). slice_get xs 0) (alone l) in
+          let worth : v ≡ sheet_value s a w.0.tree = cc in
+          ap (λ (rest : List V). (Ok v, rest)) (ap (drop (length rows)) same ∙ f)
+          ∙ ap (λ (r : Result V Fault). (r, spared (length rows) r slots)) (ap Ok worth ∙ sym (folded-table (length slots) room m))
 
   -- the law, of what is defined and so of what is answered
   pub folds : (c : ℕ) (rows : List Row) (after slots : List V) (r : Result V Fault) → (r, after) ≡ fold_leaves s a c rows slots → Folds s a c rows (length slots) r
   folds c rows after slots r e t listed over few l m =
       let T : Table c rows = record { tree = t; over = over; listed = listed; few = m } in
-      ap (λ p. p.0) e ∙ folded-table rows T (length slots) few l m
+      ap (λ p. p.0) e ∙ folded-table rows (T, few) (length slots) l m

@@ -1,4 +1,10 @@
 // Lengths, depths and points of small tables worked out by hand, and what a fold leaves in its slots.
+ghost use Rattle.std.specs.Prelude.{◌≡◌, length};
+ghost use Rattle.folds.specs.Folds.{spared, fold_leaves, Measures};
+ghost use Rattle.folds.specs.CodeLengths.{length_sums, length_rest, sheet_length};
+ghost use Rattle.folds.specs.StackDepths.{depth_sums, depth_rest, sheet_depth};
+ghost use Rattle.folds.specs.PointSets.{point_sums, point_rest, sheet_points};
+
 use crate::depths::StackDepth;
 use crate::lengths::CodeLength;
 use crate::measure::Measure;
@@ -85,11 +91,34 @@ fn rows_of(heap: Global, table: &[Brief]) -> Result<Vec<Row>, AllocError> {
     Ok(rows)
 }
 
+// What a caller of one measure knows of it.
+
+fn code_length(rows: &[Row], points: usize, slots: &mut [u32]) -> Result<u32, Fault>
+    ensures value { (result, spared (length rows.now) result slots.new) ≡ fold_leaves length_sums length_rest points rows.now slots.old }
+    ensures exact { Measures sheet_length points rows.now (length slots.old) result }
+{
+    CodeLength.measure(rows, points, slots)
+}
+
+fn stack_depth(rows: &[Row], points: usize, slots: &mut [u32]) -> Result<u32, Fault>
+    ensures value { (result, spared (length rows.now) result slots.new) ≡ fold_leaves depth_sums depth_rest points rows.now slots.old }
+    ensures exact { Measures sheet_depth points rows.now (length slots.old) result }
+{
+    StackDepth.measure(rows, points, slots)
+}
+
+fn points_used(rows: &[Row], points: usize, slots: &mut [u64]) -> Result<u64, Fault>
+    ensures value { (result, spared (length rows.now) result slots.new) ≡ fold_leaves point_sums point_rest points rows.now slots.old }
+    ensures exact { Measures sheet_points points rows.now (length slots.old) result }
+{
+    PointsUsed.measure(rows, points, slots)
+}
+
 fn measure(heap: Global, table: &[Brief]) -> Result<(u32, u32, u64), Fail> {
     let rows = rows_of(heap, table)?;
-    let length = CodeLength.measure(rows.as_slice(), 64, &mut [0; 13])?;
-    let depth = StackDepth.measure(rows.as_slice(), 64, &mut [0; 13])?;
-    let points = PointsUsed.measure(rows.as_slice(), 64, &mut [0; 13])?;
+    let length = code_length(rows.as_slice(), 64, &mut [0; 13])?;
+    let depth = stack_depth(rows.as_slice(), 64, &mut [0; 13])?;
+    let points = points_used(rows.as_slice(), 64, &mut [0; 13])?;
     Ok((length, depth, points))
 }
 
@@ -107,26 +136,23 @@ fn measures(rt: HostRuntime) -> Result<(), Fail> {
 fn slots_are_used_and_spared(rt: HostRuntime) -> Result<(), Fail> {
     let rows = rows_of(rt.alloc(), &SUM)?;
     let mut exact = [9u32; 4];
-    assert_eq!(rt; CodeLength.measure(rows.as_slice(), 3, &mut exact), Ok(5));
+    assert_eq!(rt; code_length(rows.as_slice(), 3, &mut exact), Ok(5));
     let mut more = [9u32; 6];
-    assert_eq!(rt; StackDepth.measure(rows.as_slice(), 3, &mut more), Ok(2));
+    assert_eq!(rt; stack_depth(rows.as_slice(), 3, &mut more), Ok(2));
     assert_eq!(rt; (more[4], more[5]), (9, 9));
     let mut fewer = [9u32; 3];
     let needed = Fault {
         layer: Layer::Table(TableCause::TooFewSlots),
         figure: 4,
     };
-    assert_eq!(rt;
-        CodeLength.measure(rows.as_slice(), 3, &mut fewer),
-        Err(needed)
-    );
+    assert_eq!(rt; code_length(rows.as_slice(), 3, &mut fewer), Err(needed));
     assert_eq!(rt; fewer, [9, 9, 9]);
     Ok(())
 }
 
 // The refusal's number and figure, or zeros.
 fn refusal(rows: &[Row], points: usize, slots: &mut [u64]) -> (u8, u64) {
-    match PointsUsed.measure(rows, points, slots) {
+    match points_used(rows, points, slots) {
         Ok(_) => (0, 0),
         Err(fault) => (fault.number(), fault.figure),
     }

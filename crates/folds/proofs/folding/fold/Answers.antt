@@ -1,7 +1,4 @@
-use Rattle.std.proofs.Common.{◌≡◌, ℕ, ◌+◌, ◌≤◌, slice_get, List, [], ◌∷◌, length, get_or, drop, Some, Ok, Err, sym, refl, ap, ◌∙◌, arith, rules}
-use Rattle.tables.specs.Values.{sheet_value}
-use Rattle.tables.specs.Passes.{passes}
-use Rattle.folds.specs.Stacks.{top_first}
+use Rattle.std.proofs.Common.{◌≡◌, ℕ, ◌+◌, ◌≤◌, true, length, drop, refl, ap, ◌∙◌, arith, rules}
 use Rattle.folds.proofs.Tops.{length-top}
 use Rattle.folds.proofs.FoldLaws.{enough, onward, alone, leaves, folds}
 use Rattle.folds.proofs.folding.fold.Goals as goal
@@ -9,17 +6,15 @@ use Rattle.folds.proofs.folding.fold.Goals as goal
 pub on-requires : goal.on-requires
 on-requires g c =
     let stack = c.loop-row.stack in
-    let T = (c.in_ok-check.ensures.accepts.only refl).0 in
     let l = length-top stack.slots.now stack.held stack.within in
-    let e = enough g.A.Algebra.sums g.A.Algebra.rest c.args.rows.now T c.loop-row.row-index _ c.loop-row.invariant.passes c.loop-row-test.true in
+    let e = enough g.A.Algebra.sums g.A.Algebra.rest c.args.rows.now (c.in_ok-check.ensures.accepts.only (refl {a = true})) c.loop-row.row-index _ c.loop-row.invariant.passes c.loop-row-test.true in
     omega arith
 
 pub replace-requires : goal.replace-requires
 replace-requires g c =
     let stack = c.loop-row.stack in
-    let T = (c.in_ok-check.ensures.accepts.only refl).0 in
     let l = length-top stack.slots.now stack.held stack.within in
-    let e = enough g.A.Algebra.sums g.A.Algebra.rest c.args.rows.now T c.loop-row.row-index _ c.loop-row.invariant.passes c.loop-row-test.true in
+    let e = enough g.A.Algebra.sums g.A.Algebra.rest c.args.rows.now (c.in_ok-check.ensures.accepts.only (refl {a = true})) c.loop-row.row-index _ c.loop-row.invariant.passes c.loop-row-test.true in
     let long = ap length c.new-stack.ensures.slots in
     record { parts = omega arith; room = omega arith }
 
@@ -27,10 +22,9 @@ pub loop-row-preserved : goal.loop-row-preserved
 loop-row-preserved g c =
     let inv = c.loop-row.invariant in
     let new = c.replace.ensures in
-    let T = (c.in_ok-check.ensures.accepts.only refl).0 in
     record {
       passes =
-          onward g.A.Algebra.sums g.A.Algebra.rest c.args.rows.now T c.loop-row.row-index _ inv.passes c.loop-row-test.true c.on.result c.on.ensures c.value-value.result c.value-value.ensures c.part_count.result c.part_count.ensures _ new.items;
+          onward g.A.Algebra.sums g.A.Algebra.rest c.args.rows.now (c.in_ok-check.ensures.accepts.only (refl {a = true})) c.loop-row.row-index _ inv.passes c.loop-row-test.true c.on.result c.on.ensures c.value-value.result c.value-value.ensures c.part_count.result c.part_count.ensures _ new.items;
       held = omega arith;
       size = new.size ∙ inv.size;
       spare = new.spare (length c.args.rows.now) (omega arith) ∙ inv.spare;
@@ -40,24 +34,18 @@ loop-row-preserved g c =
 pub peek-requires : goal.peek-requires
 peek-requires g c =
     let stack = c.loop-row.stack in
-    let T = (c.in_ok-check.ensures.accepts.only refl).0 in
     let l = length-top stack.slots.now stack.held stack.within in
-    let one = ap length (alone g.A.Algebra.sums g.A.Algebra.rest c.args.rows.now T c.loop-row.row-index _ c.loop-row.invariant.passes c.loop-row-test.false) in
+    let one = ap length (alone g.A.Algebra.sums g.A.Algebra.rest c.args.rows.now (c.in_ok-check.ensures.accepts.only (refl {a = true})) c.loop-row.row-index _ c.loop-row.invariant.passes c.loop-row-test.false) in
     omega arith
 
 pub returns-clause-value : goal.returns-clause-value
 returns-clause-value g c =
-    let s = g.A.Algebra.sums in
-    let a = g.A.Algebra.rest in
     let rows = c.args.rows.now in
-    let T = (c.in_ok-check.ensures.accepts.only refl).0 in
-    let few = (c.in_ok-check.ensures.accepts.only refl).1 in
     let inv = c.loop-row.invariant in
-    let one = alone s a rows T c.loop-row.row-index _ inv.passes c.loop-row-test.false in
-    let same : Some c.peek.result ≡ Some (sheet_value s a T.tree) = c.peek.ensures ∙ ap (λ (l : List _). slice_get l 0) one in
     let names = inv.lender ∙ c.new-stack.ensures.lender in
-    leaves s a rows T _ c.loop-row.stack.slots.now c.args.slots.now c.peek.result few (search rules) (search rules) (cc) (search rules)
+    leaves g.A.Algebra.sums g.A.Algebra.rest rows (c.in_ok-check.ensures.accepts.only (refl {a = true})) c.loop-row.row-index _ inv.passes c.loop-row-test.false c.peek.result c.peek.ensures _ c.loop-row.stack.slots.now c.args.slots.now (search rules) (search rules) (search rules)
     (inv.spare ∙ ap (drop (length rows)) c.new-stack.ensures.slots)
 
 pub returns-clause-tree : goal.returns-clause-tree
-returns-clause-tree g c = folds g.A.Algebra.sums g.A.Algebra.rest c.args.points c.args.rows.now _ c.args.slots.now _ (returns-clause-value g c)
+returns-clause-tree g c =
+    folds g.A.Algebra.sums g.A.Algebra.rest c.args.points c.args.rows.now _ c.args.slots.now _ (returns-clause-value g c)
