@@ -1,7 +1,7 @@
 -- Why a fold is the tree's value, and why its pass never finds the stack too empty.
-use Rattle.std.proofs.Common.{◌≡◌, ℕ, ◌+◌, ◌<◌, ◌≤◌, Bool, true, cond, ltb, leb, List, [], ◌∷◌, length, get_or, drop, Some, None, Ok, Err, Option, Result, option_map, slice_get, sym, refl, ap, ◌∙◌, subst, append-nil, arith}
+use Rattle.std.proofs.Common.{◌≡◌, ℕ, ◌+◌, ◌<◌, ◌≤◌, Bool, true, false, cond, ltb, leb, List, [], ◌∷◌, length, get_or, drop, Some, None, Ok, Err, Option, Result, option_map, slice_get, sym, refl, ap, ◌∙◌, subst, append-nil, arith}
 use Rattle.std.proofs.lemmas.List.{at_drop_more, at_drop_all}
-use Rattle.std.proofs.lemmas.Bool.{le-ltb, le-leb, or_from}
+use Rattle.std.proofs.lemmas.Bool.{le-ltb, le-leb, or_from, cond-false}
 use Rattle.faults.specs.declared.fault.Fault.{Fault}
 use Rattle.tables.specs.declared.kind.Kind.{Kind}
 use Rattle.tables.specs.declared.kind.Kind.TheVariants.{Number, Name, Add, Sub, Mul, Div, Truth, Compare, Not, And, Or, Set, If, IfElse, While, Joint}
@@ -9,7 +9,7 @@ use Rattle.tables.specs.declared.row.Row.{Row}
 use Rattle.tables.specs.Trees.{Sheet}
 use Rattle.tables.specs.Rows.{blank, sheet_rows}
 use Rattle.tables.specs.Tables.{Table}
-use Rattle.tables.specs.Checks.{and_then, is_table, no_table_fault, too_many_points}
+use Rattle.tables.specs.Checks.{and_then, is_table, table_checked, no_table_fault, too_many_points}
 use Rattle.tables.specs.Values.{Sums, Rest, sheet_value}
 use Rattle.tables.specs.Passes.{on_one, on_two, on_three, passed, passes}
 use Rattle.tables.proofs.Passing.{pass-sheet}
@@ -22,6 +22,11 @@ use Rattle.folds.specs.Folds.{part_count, too_few_slots, left, folded, spared, f
 then_some : {X Y : Type 0} (o : Option X) (f : X → Option Y) (y : Y) → and_then o f ≡ Some y → (x : X) × (o ≡ Some x)
 then_some None f y e = absurd (cc)
 then_some (Some x) f y e = (x, refl)
+
+refused-at : {X Y : Type 0} (t few : Bool) (x : X) (r : Result Y Fault) (d b f : Fault) → Err f ≡ cond t (cond few (Ok x) (Err d)) (Err b) → cond t (cond few r (Err d)) (Err b) ≡ Err f
+refused-at true true x r d b f e = absurd (cc)
+refused-at true false x r d b f e = let h : d ≡ f = cc in ap Err h
+refused-at false few x r d b f e = let h : b ≡ f = cc in ap Err h
 
 module _ {V : Type 0} where
   one-enough : (f : V → V) (st w : List V) → on_one f st ≡ Some w → 1 ≤ length st
@@ -76,6 +81,13 @@ module _ {V : Type 0} (s : Sums V) (a : Rest V) where
   pub tree-passes : (t : Sheet) → passes s a (sheet_rows t) [] ≡ Some (sheet_value s a t ∷ [])
   tree-passes t = ap (λ (rs : List Row). passes s a rs []) (sym (append-nil (sheet_rows t))) ∙ pass-sheet s a t [] []
 
+  in-room : (c : ℕ) (rows : List Row) (slots : ℕ) → length rows ≤ slots → length rows ≤ 2048 → folded s a c rows slots ≡ cond (is_table c rows) (cond (leb c 64) (left (passes s a rows [])) (Err (too_many_points c))) (Err no_table_fault)
+  in-room c rows slots l m = cond-false _ _ _ (or_from _ _ (le-ltb slots (length rows) l) (le-ltb 2048 (length rows) m))
+
+  -- a fold refuses what the check refuses
+  pub refused : (c : ℕ) (rows : List Row) (slots : ℕ) (f : Fault) → length rows ≤ slots → length rows ≤ 2048 → Err f ≡ table_checked c rows → folded s a c rows slots ≡ Err f
+  refused c rows slots f l m e = in-room c rows slots l m ∙ refused-at (is_table c rows) (leb c 64) rows _ _ _ f e
+
   -- a pass over the rows of a table, at its row i with the stack st
 
   module _ {c : ℕ} (rows : List Row) (w : Table c rows × (c ≤ 64)) where
@@ -86,8 +98,7 @@ module _ {V : Type 0} (s : Sums V) (a : Rest V) where
     -- what a fold answers
     folded-table : (slots : ℕ) → length rows ≤ slots → length rows ≤ 2048 → folded s a c rows slots ≡ Ok (sheet_value s a w.0.tree)
     folded-table slots l m =
-        ap (λ (b : Bool). cond b (Err (too_few_slots (length rows))) (cond (is_table c rows) (cond (leb c 64) (left (passes s a rows [])) (Err (too_many_points c))) (Err no_table_fault)))
-        (or_from _ _ (le-ltb slots (length rows) l) (le-ltb 2048 (length rows) m))
+        in-room c rows slots l m
         ∙ ap (λ (b : Bool). cond b (cond (leb c 64) (left (passes s a rows [])) (Err (too_many_points c))) (Err no_table_fault)) (accepts-table c rows w.0)
         ∙ ap (λ (b : Bool). cond b (left (passes s a rows [])) (Err (too_many_points c))) (le-leb c 64 w.1)
         ∙ ap left table-passes

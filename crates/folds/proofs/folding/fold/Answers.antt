@@ -1,7 +1,14 @@
-use Rattle.std.proofs.Common.{◌≡◌, ℕ, ◌+◌, ◌≤◌, true, length, drop, refl, ap, ◌∙◌, arith, rules}
+use Rattle.std.proofs.Common.{◌≡◌, ℕ, ◌+◌, ◌≤◌, true, length, drop, Result, Err, sym, refl, ap, ◌∙◌, arith, rules}
+use Rattle.folds.specs.Folds.{spared}
 use Rattle.folds.proofs.Tops.{length-top}
-use Rattle.folds.proofs.FoldLaws.{enough, onward, alone, leaves, folds}
+use Rattle.folds.proofs.FoldLaws.{enough, onward, alone, refused, leaves, folds}
 use Rattle.folds.proofs.folding.fold.Goals as goal
+
+pub returns-in_err-check-clause-value : goal.returns-in_err-check-clause-value
+returns-in_err-check-clause-value g c =
+    let same : c.from_residual.result ≡ Err c.in_err-check.field-0.0 = search rules in
+    let e = refused g.A.Algebra.sums g.A.Algebra.rest c.args.points c.args.rows.now (length c.args.slots.now) c.in_err-check.field-0.0 (search rules) (search rules) c.in_err-check.ensures.value in
+    ap (λ (r : Result _ _). (r, spared (length c.args.rows.now) r c.args.slots.now)) (same ∙ sym e)
 
 pub on-requires : goal.on-requires
 on-requires g c =
