@@ -1,10 +1,10 @@
 -- Why a fold is the tree's value, and why its pass never finds the stack too empty.
-use Rattle.std.proofs.Common.{◌≡◌, ℕ, ◌+◌, ◌<◌, ◌≤◌, Bool, true, false, cond, ltb, leb, List, [], ◌∷◌, length, get_or, drop, Some, None, Ok, Err, Option, Result, option_map, slice_get, sym, refl, ap, ◌∙◌, subst, append-nil, arith}
+use Rattle.std.proofs.Common.{◌≡◌, ℕ, ◌+◌, ◌<◌, ◌≤◌, Bool, true, false, cond, leb, List, [], ◌∷◌, length, get_or, drop, Some, None, Ok, Err, Option, Result, option_map, slice_get, sym, refl, ap, ◌∙◌, subst, append-nil, arith}
 use Rattle.std.proofs.lemmas.List.{at_drop_more, at_drop_all}
 use Rattle.std.proofs.lemmas.Bool.{le-ltb, le-leb, or_from, cond-false}
 use Rattle.faults.specs.declared.fault.Fault.{Fault}
 use Rattle.tables.specs.declared.kind.Kind.{Kind}
-use Rattle.tables.specs.declared.kind.Kind.TheVariants.{Number, Name, Add, Sub, Mul, Div, Truth, Compare, Not, And, Or, Set, If, IfElse, While, Joint}
+use Rattle.tables.specs.declared.kind.Kind.TheVariants.{Number, Name, Truth, Not, Set, IfElse}
 use Rattle.tables.specs.declared.row.Row.{Row}
 use Rattle.tables.specs.Trees.{Sheet}
 use Rattle.tables.specs.Rows.{blank, sheet_rows}
@@ -15,9 +15,8 @@ use Rattle.tables.specs.Passes.{on_one, on_two, on_three, passed, passes}
 use Rattle.tables.proofs.Passing.{pass-sheet}
 use Rattle.tables.proofs.Standing.{accepts-table}
 use Rattle.folds.specs.declared.node.Node.{Node}
-use Rattle.folds.specs.declared.node.Node.TheVariants as node
 use Rattle.folds.specs.Nodes.{node_value, over_one, over_two, over_three, node_of}
-use Rattle.folds.specs.Folds.{part_count, too_few_slots, left, folded, spared, fold_leaves, Folds}
+use Rattle.folds.specs.Folds.{part_count, left, folded, spared, fold_leaves, Folds}
 
 then_some : {X Y : Type 0} (o : Option X) (f : X → Option Y) (y : Y) → and_then o f ≡ Some y → (x : X) × (o ≡ Some x)
 then_some None f y e = absurd (cc)

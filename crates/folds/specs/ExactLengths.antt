@@ -1,6 +1,6 @@
 -- That no table's code length comes near the largest 32-bit number, so that what the algebra counts is the length: the
 -- law that `CodeLength` keeps as a measure.
-use Rattle.std.proofs.Common.{◌≡◌, ℕ, ◌+◌, ◌*◌, ◌≤◌, length, refl, ◌∙◌, arith}
+use Rattle.std.proofs.Common.{◌≡◌, ◌*◌, ◌≤◌, refl, arith}
 use Rattle.arith.specs.declared.operator.Operator.TheVariants as operator
 use Rattle.tables.specs.declared.sort.Sort.TheVariants as sort
 use Rattle.tables.specs.Trees.{Sum, number, name, work, both, either, Condition, truth, compare, negate, connect, Command, set, when, choose, while, Sheet, only, joint}

@@ -1,5 +1,5 @@
 -- A row's kind with its parts' values: what it is worth in an algebra, and which one stands on top of a stack.
-use Rattle.std.specs.Prelude.{List, Some, None, Option, slice_get, option_map, option_and_then}
+use Rattle.std.specs.Prelude.{List, Some, Option, slice_get, option_map, option_and_then}
 use Rattle.tables.specs.declared.kind.Kind.{Kind}
 use Rattle.tables.specs.declared.kind.Kind.TheVariants as kind
 use Rattle.tables.specs.declared.row.Row.{Row}

@@ -1,4 +1,4 @@
-use Rattle.std.proofs.Common.{◌≡◌, ℕ, ◌+◌, ◌≤◌, true, length, drop, Result, Err, sym, refl, ap, ◌∙◌, arith, rules}
+use Rattle.std.proofs.Common.{◌≡◌, true, length, drop, Result, Err, sym, refl, ap, ◌∙◌, arith, rules}
 use Rattle.folds.specs.Folds.{spared}
 use Rattle.folds.proofs.Tops.{length-top}
 use Rattle.folds.proofs.FoldLaws.{enough, onward, alone, refused, leaves, folds}
