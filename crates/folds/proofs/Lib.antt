@@ -1,6 +1,2 @@
 pub mod Tops
-pub mod Worths
 pub mod FoldLaws
-pub mod ExactLengths
-pub mod ExactDepths
-pub mod ExactPoints

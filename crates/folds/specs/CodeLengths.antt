@@ -1,6 +1,6 @@
 -- How many instructions a tree's code has: set, if-else and while have two of their own, joint none, every other row
 -- one. The algebra counts in 32 bits and stops at the largest number, so that it has an answer for any values; on a
--- table it never stops there, which is the law `exact` of the call.
+-- table it never stops there, which is the law `exact` of the measure.
 use Rattle.std.specs.Prelude.{ℕ, ◌+◌, min}
 use Rattle.tables.specs.Trees.{Sum, number, name, work, Condition, truth, compare, negate, connect, Command, set, when, choose, while, Sheet, only, joint}
 use Rattle.tables.specs.Values.{Sums, Rest}

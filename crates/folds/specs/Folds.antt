@@ -5,8 +5,8 @@ use Rattle.faults.specs.declared.causes.Layer.TheVariants as layer
 use Rattle.faults.specs.declared.causes.TableCause.TheVariants.{TooFewSlots}
 use Rattle.faults.specs.declared.fault.Fault.{Fault}
 use Rattle.tables.specs.declared.kind.Kind.{Kind}
-use Rattle.tables.specs.declared.kind.Kind.TheVariants.{Number, Name, Add, Sub, Mul, Div, Truth, Compare, Not, And, Or, Set, If, IfElse, While, Joint}
 use Rattle.tables.specs.declared.row.Row.{Row}
+use Rattle.tables.specs.Sorts as sorts
 use Rattle.tables.specs.Trees.{Sheet}
 use Rattle.tables.specs.Rows.{sheet_rows}
 use Rattle.tables.specs.Tables.{SheetOver}
@@ -16,22 +16,7 @@ use Rattle.tables.specs.Passes.{passes}
 
 -- how many parts a row of each kind has
 abbrev pub part_count : Kind → ℕ
-part_count Number = 0
-part_count Name = 0
-part_count Add = 2
-part_count Sub = 2
-part_count Mul = 2
-part_count Div = 2
-part_count Truth = 0
-part_count Compare = 2
-part_count Not = 1
-part_count And = 2
-part_count Or = 2
-part_count Set = 1
-part_count If = 2
-part_count IfElse = 3
-part_count While = 2
-part_count Joint = 2
+part_count = sorts.part_count
 
 abbrev pub too_few_slots : ℕ → Fault
 too_few_slots n = record { layer = layer.Table TooFewSlots; figure = n }
@@ -66,6 +51,10 @@ fold_leaves s a c rows slots =
 abbrev pub Measures : {V : Type 0} → (Sheet → V) → ℕ → List Row → ℕ → Result V Fault → Type 0
 Measures f c rows slots r =
     (t : Sheet) → sheet_rows t ≡ rows → SheetOver c t → c ≤ 64 → length rows ≤ slots → length rows ≤ 2048 → r ≡ Ok (f t)
+
+-- this measure is what the algebra makes of any tree whose rows are a table
+abbrev pub Exact : {V : Type 0} → Sums V → Rest V → (Sheet → V) → Type 0
+Exact s a f = (c : ℕ) (t : Sheet) → SheetOver c t → c ≤ 64 → length (sheet_rows t) ≤ 2048 → sheet_value s a t ≡ f t
 
 -- the fold of a table is its tree's value
 abbrev pub Folds : {V : Type 0} → Sums V → Rest V → ℕ → List Row → ℕ → Result V Fault → Type 0

@@ -1,5 +1,9 @@
 pub mod Stacks
 pub mod Folds
+pub mod Nodes
 pub mod CodeLengths
+pub mod ExactLengths
 pub mod StackDepths
+pub mod ExactDepths
 pub mod PointSets
+pub mod ExactPoints

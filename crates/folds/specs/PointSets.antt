@@ -1,6 +1,6 @@
 -- The points that a tree uses, those of its names and of its set commands, as a number whose bit p is point p's. The
 -- algebra has no bit for a value that is no point below 64; in a table there is none, which is the law `exact` of the
--- call.
+-- measure.
 use Rattle.std.specs.Prelude.{ℕ, ◌^◌, cond, ℤ, pos, negsuc, bit_or, nat_lt}
 use Rattle.tables.specs.Trees.{Sum, number, name, work, Condition, truth, compare, negate, connect, Command, set, when, choose, while, Sheet, only, joint}
 use Rattle.tables.specs.Values.{Sums, Rest}

@@ -1,7 +1,7 @@
 -- How deep the stack becomes when a tree's code runs: 1 for number, name and truth; for two-part rows of sums and
 -- conditions the larger of left and one more than right, since the right part is worked out above the left one's
 -- value; otherwise the greatest of the parts, since commands leave nothing behind. The algebra counts in 32 bits and
--- stops at the largest number; on a table it never comes there, which is the law `exact` of the call.
+-- stops at the largest number; on a table it never comes there, which is the law `exact` of the measure.
 use Rattle.std.specs.Prelude.{ℕ, ◌+◌, min, max}
 use Rattle.tables.specs.Trees.{Sum, number, name, work, Condition, truth, compare, negate, connect, Command, set, when, choose, while, Sheet, only, joint}
 use Rattle.tables.specs.Values.{Sums, Rest}

@@ -1,5 +1,5 @@
 -- What a stack in lent slots holds, its top first: the first n slots, the last of them on top.
 use Rattle.std.specs.Prelude.{ℕ, List, reverse, take}
 
-unfoldable pub top_first : {T : Type 0} → ℕ → List T → List T
+abbrev pub top_first : {T : Type 0} → ℕ → List T → List T
 top_first n xs = reverse (take n xs)

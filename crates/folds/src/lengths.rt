@@ -1,11 +1,12 @@
 // How many instructions a table's code has.
-ghost use Rattle.std.specs.Prelude.{◌≡◌, length};
-ghost use Rattle.folds.specs.Folds.{spared, fold_leaves, Measures};
-ghost use Rattle.folds.specs.CodeLengths.{plus, length_sums, length_rest, sheet_length};
+ghost use Rattle.std.specs.Prelude.{◌≡◌};
+ghost use Rattle.folds.specs.Nodes.{node_value};
+ghost use Rattle.folds.specs.CodeLengths.{length_sums, length_rest, sheet_length};
+ghost use Rattle.folds.specs.ExactLengths.{exact_lengths};
 
 use crate::algebra::Algebra;
-use crate::folding::fold;
-use faults::Fault;
+use crate::measure::Measure;
+use crate::node::Node;
 use tables::Row;
 
 // Counts stop at the largest number, which no table's length comes near.
@@ -19,86 +20,33 @@ impl Algebra for CodeLength {
 
     ghost rest = { length_rest };
 
-    fn number(&self, _row: Row) -> u32 {
-        1
-    }
-
-    fn name(&self, _row: Row) -> u32 {
-        1
-    }
-
-    fn add(&self, _row: Row, left: u32, right: u32) -> u32 {
-        after_two(left, right, 1)
-    }
-
-    fn sub(&self, _row: Row, left: u32, right: u32) -> u32 {
-        after_two(left, right, 1)
-    }
-
-    fn mul(&self, _row: Row, left: u32, right: u32) -> u32 {
-        after_two(left, right, 1)
-    }
-
-    fn div(&self, _row: Row, left: u32, right: u32) -> u32 {
-        after_two(left, right, 1)
-    }
-
-    fn truth(&self, _row: Row) -> u32 {
-        1
-    }
-
-    fn compare(&self, _row: Row, left: u32, right: u32) -> u32 {
-        after_two(left, right, 1)
-    }
-
-    fn not(&self, _row: Row, condition: u32) -> u32 {
-        after_one(condition, 1)
-    }
-
-    fn and(&self, _row: Row, left: u32, right: u32) -> u32 {
-        after_two(left, right, 1)
-    }
-
-    fn or(&self, _row: Row, left: u32, right: u32) -> u32 {
-        after_two(left, right, 1)
-    }
-
-    fn set(&self, _row: Row, sum: u32) -> u32 {
-        after_one(sum, 2)
-    }
-
-    fn when(&self, _row: Row, condition: u32, body: u32) -> u32 {
-        after_two(condition, body, 1)
-    }
-
-    fn choose(&self, _row: Row, condition: u32, first: u32, second: u32) -> u32 {
-        after_one(after_two(condition, first, 2), second)
-    }
-
-    fn repeat(&self, _row: Row, condition: u32, body: u32) -> u32 {
-        after_two(condition, body, 2)
-    }
-
-    fn joint(&self, _row: Row, command: u32, after: u32) -> u32 {
-        after_two(command, after, 0)
+    fn value(&self, _row: Row, node: Node<u32>) -> u32
+        ensures { result ≡ node_value length_sums length_rest _row node }
+    {
+        match node {
+            Node::Number | Node::Name | Node::Truth => 1,
+            Node::Add(left, right)
+            | Node::Sub(left, right)
+            | Node::Mul(left, right)
+            | Node::Div(left, right)
+            | Node::Compare(left, right)
+            | Node::And(left, right)
+            | Node::Or(left, right) => left.saturating_add(right).saturating_add(1),
+            Node::Not(condition) => condition.saturating_add(1),
+            Node::Set(sum) => sum.saturating_add(2),
+            Node::If(condition, body) => condition.saturating_add(body).saturating_add(1),
+            Node::IfElse(condition, first, second) => condition
+                .saturating_add(first)
+                .saturating_add(2)
+                .saturating_add(second),
+            Node::While(condition, body) => condition.saturating_add(body).saturating_add(2),
+            Node::Joint(command, after) => command.saturating_add(after),
+        }
     }
 }
 
-pub fn code_length(rows: &[Row], points: usize, slots: &mut [u32]) -> Result<u32, Fault>
-    ensures value { (result, spared (length rows.now) result slots.new) ≡ fold_leaves length_sums length_rest points rows.now slots.old }
-    ensures exact { Measures sheet_length points rows.now (length slots.old) result }
-{
-    fold(rows, points, &CodeLength, slots)
-}
+impl Measure for CodeLength {
+    ghost of_sheet = { sheet_length };
 
-fn after_one(part: u32, own: u32) -> u32
-    ensures { result ≡ plus part own }
-{
-    part.saturating_add(own)
-}
-
-fn after_two(left: u32, right: u32, own: u32) -> u32
-    ensures { result ≡ plus (plus left right) own }
-{
-    left.saturating_add(right).saturating_add(own)
+    ghost exact = { exact_lengths };
 }

@@ -5,14 +5,18 @@ mod algebra;
 mod depths;
 mod folding;
 mod lengths;
+mod measure;
+mod node;
 mod point_sets;
 mod stack;
 
 pub use algebra::Algebra;
-pub use depths::{StackDepth, stack_depth};
+pub use depths::StackDepth;
 pub use folding::fold;
-pub use lengths::{CodeLength, code_length};
-pub use point_sets::{PointsUsed, points_used};
+pub use lengths::CodeLength;
+pub use measure::Measure;
+pub use node::Node;
+pub use point_sets::PointsUsed;
 
 #[cfg(test)]
 mod tests;

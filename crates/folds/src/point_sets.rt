@@ -1,11 +1,12 @@
 // Which points a table uses, as 64 bits: bit p for point p.
-ghost use Rattle.std.specs.Prelude.{◌≡◌, length};
-ghost use Rattle.folds.specs.Folds.{spared, fold_leaves, Measures};
+ghost use Rattle.std.specs.Prelude.{◌≡◌};
+ghost use Rattle.folds.specs.Nodes.{node_value};
 ghost use Rattle.folds.specs.PointSets.{bit_of, point_sums, point_rest, sheet_points};
+ghost use Rattle.folds.specs.ExactPoints.{exact_points};
 
 use crate::algebra::Algebra;
-use crate::folding::fold;
-use faults::Fault;
+use crate::measure::Measure;
+use crate::node::Node;
 use tables::Row;
 
 #[derive(Clone, Copy)]
@@ -18,84 +19,40 @@ impl Algebra for PointsUsed {
 
     ghost rest = { point_rest };
 
-    fn number(&self, _row: Row) -> u64 {
-        0
-    }
-
-    fn name(&self, row: Row) -> u64 {
-        bit_of(row.value)
-    }
-
-    fn add(&self, _row: Row, left: u64, right: u64) -> u64 {
-        left | right
-    }
-
-    fn sub(&self, _row: Row, left: u64, right: u64) -> u64 {
-        left | right
-    }
-
-    fn mul(&self, _row: Row, left: u64, right: u64) -> u64 {
-        left | right
-    }
-
-    fn div(&self, _row: Row, left: u64, right: u64) -> u64 {
-        left | right
-    }
-
-    fn truth(&self, _row: Row) -> u64 {
-        0
-    }
-
-    fn compare(&self, _row: Row, left: u64, right: u64) -> u64 {
-        left | right
-    }
-
-    fn not(&self, _row: Row, condition: u64) -> u64 {
-        condition
-    }
-
-    fn and(&self, _row: Row, left: u64, right: u64) -> u64 {
-        left | right
-    }
-
-    fn or(&self, _row: Row, left: u64, right: u64) -> u64 {
-        left | right
-    }
-
-    fn set(&self, row: Row, sum: u64) -> u64 {
-        sum | bit_of(row.value)
-    }
-
-    fn when(&self, _row: Row, condition: u64, body: u64) -> u64 {
-        condition | body
-    }
-
-    fn choose(&self, _row: Row, condition: u64, first: u64, second: u64) -> u64 {
-        condition | first | second
-    }
-
-    fn repeat(&self, _row: Row, condition: u64, body: u64) -> u64 {
-        condition | body
-    }
-
-    fn joint(&self, _row: Row, command: u64, after: u64) -> u64 {
-        command | after
+    fn value(&self, row: Row, node: Node<u64>) -> u64
+        ensures { result ≡ node_value point_sums point_rest row node }
+    {
+        match node {
+            Node::Number | Node::Truth => 0,
+            Node::Name => bit_of(row.value),
+            Node::Add(left, right)
+            | Node::Sub(left, right)
+            | Node::Mul(left, right)
+            | Node::Div(left, right)
+            | Node::Compare(left, right)
+            | Node::And(left, right)
+            | Node::Or(left, right)
+            | Node::If(left, right)
+            | Node::While(left, right)
+            | Node::Joint(left, right) => left | right,
+            Node::Not(condition) => condition,
+            Node::Set(sum) => sum | bit_of(row.value),
+            Node::IfElse(condition, first, second) => condition | first | second,
+        }
     }
 }
 
-pub fn points_used(rows: &[Row], points: usize, slots: &mut [u64]) -> Result<u64, Fault>
-    ensures value { (result, spared (length rows.now) result slots.new) ≡ fold_leaves point_sums point_rest points rows.now slots.old }
-    ensures exact { Measures sheet_points points rows.now (length slots.old) result }
-{
-    fold(rows, points, &PointsUsed, slots)
-}
+impl Measure for PointsUsed {
+    ghost of_sheet = { sheet_points };
 
+    ghost exact = { exact_points };
+}
 // A value that is no point below 64 has no bit.
 fn bit_of(value: i32) -> u64
     ensures { result ≡ bit_of value }
 {
-    if value >= 0 && value < 64 {
-        1u64 << (value as u32)
+    if (0..64).contains(&value) {
+        1 << value
     } else {
         0
     }

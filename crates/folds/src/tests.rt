@@ -1,7 +1,14 @@
 // Lengths, depths and points of small tables worked out by hand, and what a fold leaves in its slots.
-use crate::depths::stack_depth;
-use crate::lengths::code_length;
-use crate::point_sets::points_used;
+ghost use Rattle.std.specs.Prelude.{◌≡◌, length};
+ghost use Rattle.folds.specs.Folds.{spared, fold_leaves, Measures};
+ghost use Rattle.folds.specs.CodeLengths.{length_sums, length_rest, sheet_length};
+ghost use Rattle.folds.specs.StackDepths.{depth_sums, depth_rest, sheet_depth};
+ghost use Rattle.folds.specs.PointSets.{point_sums, point_rest, sheet_points};
+
+use crate::depths::StackDepth;
+use crate::lengths::CodeLength;
+use crate::measure::Measure;
+use crate::point_sets::PointsUsed;
 use faults::{Fault, Layer, TableCause};
 use std::alloc::{AllocError, Global};
 use std::test::Fail;
@@ -82,6 +89,29 @@ fn rows_of(heap: Global, table: &[Brief]) -> Result<Vec<Row>, AllocError> {
         })?;
     }
     Ok(rows)
+}
+
+// What a caller of one measure knows of it.
+
+fn code_length(rows: &[Row], points: usize, slots: &mut [u32]) -> Result<u32, Fault>
+    ensures value { (result, spared (length rows.now) result slots.new) ≡ fold_leaves length_sums length_rest points rows.now slots.old }
+    ensures exact { Measures sheet_length points rows.now (length slots.old) result }
+{
+    CodeLength.measure(rows, points, slots)
+}
+
+fn stack_depth(rows: &[Row], points: usize, slots: &mut [u32]) -> Result<u32, Fault>
+    ensures value { (result, spared (length rows.now) result slots.new) ≡ fold_leaves depth_sums depth_rest points rows.now slots.old }
+    ensures exact { Measures sheet_depth points rows.now (length slots.old) result }
+{
+    StackDepth.measure(rows, points, slots)
+}
+
+fn points_used(rows: &[Row], points: usize, slots: &mut [u64]) -> Result<u64, Fault>
+    ensures value { (result, spared (length rows.now) result slots.new) ≡ fold_leaves point_sums point_rest points rows.now slots.old }
+    ensures exact { Measures sheet_points points rows.now (length slots.old) result }
+{
+    PointsUsed.measure(rows, points, slots)
 }
 
 fn measure(heap: Global, table: &[Brief]) -> Result<(u32, u32, u64), Fail> {

@@ -5,7 +5,7 @@ use crate::input;
 use crate::input::Sheet;
 use crate::listing::{name_of, print_code};
 use faults::Fault;
-use folds::{code_length, points_used, stack_depth};
+use folds::{CodeLength, Measure, PointsUsed, StackDepth};
 use names::NameList;
 use tables::{Kind, Row};
 
@@ -97,9 +97,9 @@ fn measured(
     sets: &mut [u64],
 ) -> Result<Measures, Fault> {
     Ok(Measures {
-        length: code_length(rows, points, slots)?,
-        depth: stack_depth(rows, points, slots)?,
-        used: points_used(rows, points, sets)?,
+        length: CodeLength.measure(rows, points, slots)?,
+        depth: StackDepth.measure(rows, points, slots)?,
+        used: PointsUsed.measure(rows, points, sets)?,
     })
 }
 
