@@ -4,11 +4,13 @@
 mod bytes;
 mod fields;
 mod file;
+mod limits;
 mod operand;
 mod reader;
 mod refusals;
 mod sections;
 mod state;
+mod unread;
 mod writer;
 
 pub use file::StationFile;

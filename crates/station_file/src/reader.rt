@@ -3,11 +3,13 @@ ghost use Rattle.std.specs.Prelude.{◌≡◌};
 ghost use Rattle.station_file.specs.Reading.{reading, told, contents_of};
 ghost use Rattle.station_file.specs.Laws.{ReadsBack, OnlyFiles};
 
-use crate::fields::{code_from, count_at, places_from};
+use crate::fields::read_each;
 use crate::file::StationFile;
-use crate::refusals::not_right;
+use crate::limits::Limits;
+use crate::refusals::refused;
+use crate::unread::Unread;
 use crate::{MOST_INSTRUCTIONS, MOST_POINTS};
-use faults::Fault;
+use faults::{Fault, FileCause};
 use instructions::Instruction;
 
 impl StationFile {
@@ -42,14 +44,15 @@ impl StationFile {
 fn fields_of(bytes: &[u8]) -> Result<StationFile, Fault>
     ensures { told result ≡ reading bytes.now }
 {
-    let points = count_at(bytes, 0, 1, MOST_POINTS)?;
-    let count = count_at(bytes, 2, 1, MOST_INSTRUCTIONS)?;
-    let instructions = code_from(bytes, points, count)?;
-    let _count = count_at(bytes, 4 + 5 * count, count, count)?;
-    let places = places_from(bytes, 6 + 5 * count, count)?;
-    let end = 6 + 7 * count;
-    if bytes.len() > end {
-        return Err(not_right(end));
+    let mut unread = Unread { bytes, at: 0 };
+    let points = unread.count(1, MOST_POINTS)?;
+    let count = unread.count(1, MOST_INSTRUCTIONS)?;
+    let limits = Limits { points, count };
+    let instructions = read_each(&mut unread, limits, Instruction::Pop)?;
+    let _same = unread.count(count, count)?;
+    let places = read_each(&mut unread, limits, 0)?;
+    if unread.at < bytes.len() {
+        return Err(refused(FileCause::NoFile, unread.at));
     }
     Ok(StationFile {
         points,
