@@ -1,8 +1,9 @@
 // What the two sections list, instructions and places: their bytes, both ways.
-ghost use Rattle.std.specs.Prelude.{◌≡◌, ℕ, ◌+◌, ◌*◌, ◌≤◌, List, [], Result, length, drop, refl, OnOk};
+ghost use Rattle.std.specs.Prelude.{◌≡◌, ℕ, ◌+◌, ◌*◌, ◌≤◌, List, [], Result, length, refl, OnOk};
 ghost use Rattle.std.specs.List.{flat_map};
 ghost use Rattle.faults.specs.declared.fault.Fault.{Fault};
 ghost use Rattle.station_file.specs.Layout.{two_bytes, instruction_bytes, put};
+ghost use Rattle.station_file.specs.Unread.{rest_of, MovesOn};
 ghost use Rattle.station_file.specs.Reading.{instruction_field, place_field, fields, filled};
 
 use crate::MOST_INSTRUCTIONS;
@@ -23,9 +24,8 @@ pub(crate) trait Field<const WIDTH: usize>: Copy {
         ensures { result ≡ bytes_of self };
 
     fn read(unread: &mut Unread<'_>, limits: Limits) -> Result<Self, Fault>
-        ensures value { result ≡ field_of limits.points limits.count unread.old.at (drop unread.old.at unread.old.bytes.now) }
-        ensures bytes { unread.new.bytes.now ≡ unread.old.bytes.now }
-        ensures moved { OnOk result (unread.new.at ≡ unread.old.at + WIDTH) };
+        ensures value { result ≡ field_of limits.points limits.count unread.old.at (rest_of unread.old) }
+        ensures moved { OnOk result (MovesOn WIDTH unread.old unread.new) };
 
     ghost sized: { (x : Self) → length (bytes_of x) ≡ WIDTH };
 }
@@ -90,9 +90,8 @@ pub(crate) fn read_each<T: Field<WIDTH>, const WIDTH: usize>(
     limits: Limits,
     blank: T,
 ) -> Result<[T; MOST_INSTRUCTIONS], Fault>
-    ensures value { filled limits.count result ≡ fields (T.field_of limits.points limits.count) WIDTH limits.count [] unread.old.at (drop unread.old.at unread.old.bytes.now) }
-    ensures bytes { unread.new.bytes.now ≡ unread.old.bytes.now }
-    ensures moved { OnOk result (unread.new.at ≡ unread.old.at + WIDTH * limits.count) }
+    ensures value { filled limits.count result ≡ fields (T.field_of limits.points limits.count) WIDTH limits.count [] unread.old.at (rest_of unread.old) }
+    ensures moved { OnOk result (MovesOn (WIDTH * limits.count) unread.old unread.new) }
 {
     let mut slots = [blank; MOST_INSTRUCTIONS];
     for slot in slots[..limits.count].iter_mut() {

@@ -1,6 +1,5 @@
 // What of a file is still to be read, field by field.
-ghost use Rattle.std.specs.Prelude.{◌≡◌, ◌+◌, ◌≤◌, length, drop, OnSome, OnOk, IfOk};
-ghost use Rattle.station_file.specs.Reading.{or_wrong, first_of, two_of, four_of, code_byte, count_field};
+ghost use Rattle.std.specs.Prelude.{◌≡◌, ◌≤◌, length, OnSome, OnOk, IfOk};
 
 use crate::refusals::refused;
 use faults::{Fault, FileCause};
@@ -18,10 +17,12 @@ pub(crate) struct Unread<'a> {
 }
 
 impl<'a> Unread<'a> {
+    ghost use Rattle.station_file.specs.Unread.{rest_of, MovesOn};
+    ghost use Rattle.station_file.specs.Reading.{or_wrong, first_of, two_of, four_of, code_byte, count_field};
+
     fn next<const N: usize>(&mut self) -> Option<[u8; N]>
-        ensures value { result ≡ first_of N (drop self.old.at self.old.bytes.now) }
-        ensures bytes { self.new.bytes.now ≡ self.old.bytes.now }
-        ensures moved { OnSome result (self.new.at ≡ self.old.at + N) }
+        ensures value { result ≡ first_of N (rest_of self.old) }
+        ensures moved { OnSome result (MovesOn N self.old self.new) }
     {
         let next = *self.bytes[self.at..].first_chunk()?;
         self.at += N;
@@ -29,25 +30,22 @@ impl<'a> Unread<'a> {
     }
 
     pub(crate) fn two(&mut self) -> Option<u16>
-        ensures value { result ≡ two_of (drop self.old.at self.old.bytes.now) }
-        ensures bytes { self.new.bytes.now ≡ self.old.bytes.now }
-        ensures moved { OnSome result (self.new.at ≡ self.old.at + 2) }
+        ensures value { result ≡ two_of (rest_of self.old) }
+        ensures moved { OnSome result (MovesOn 2 self.old self.new) }
     {
         self.next().map(u16::from_le_bytes)
     }
 
     pub(crate) fn four(&mut self) -> Option<u32>
-        ensures value { result ≡ four_of (drop self.old.at self.old.bytes.now) }
-        ensures bytes { self.new.bytes.now ≡ self.old.bytes.now }
-        ensures moved { OnSome result (self.new.at ≡ self.old.at + 4) }
+        ensures value { result ≡ four_of (rest_of self.old) }
+        ensures moved { OnSome result (MovesOn 4 self.old self.new) }
     {
         self.next().map(u32::from_le_bytes)
     }
 
     pub(crate) fn code(&mut self) -> Result<u8, Fault>
-        ensures value { result ≡ or_wrong self.old.at (code_byte (drop self.old.at self.old.bytes.now)) }
-        ensures bytes { self.new.bytes.now ≡ self.old.bytes.now }
-        ensures moved { OnOk result (self.new.at ≡ self.old.at + 1) }
+        ensures value { result ≡ or_wrong self.old.at (code_byte (rest_of self.old)) }
+        ensures moved { OnOk result (MovesOn 1 self.old self.new) }
     {
         let at = self.at;
         match self.next().map(u8::from_le_bytes) {
@@ -57,9 +55,8 @@ impl<'a> Unread<'a> {
     }
 
     pub(crate) fn count(&mut self, low: usize, high: usize) -> Result<usize, Fault>
-        ensures value { result ≡ count_field low high self.old.at (drop self.old.at self.old.bytes.now) }
-        ensures bytes { self.new.bytes.now ≡ self.old.bytes.now }
-        ensures moved { OnOk result (self.new.at ≡ self.old.at + 2) }
+        ensures value { result ≡ count_field low high self.old.at (rest_of self.old) }
+        ensures moved { OnOk result (MovesOn 2 self.old self.new) }
         ensures inside { IfOk result (λ n. (low ≤ n) × (n ≤ high)) }
     {
         let at = self.at;

@@ -29,8 +29,8 @@ loop-slot-preserved g c =
     let right : field here (drop here bs) ≡ Ok x = cc (c.in_ok-slot.ensures.value, inv.same_bytes, inv.moved) in
     record {
       many = length-set c.loop-slot.slot-items i x ∙ inv.many;
-      same_bytes = c.in_ok-slot.ensures.bytes ∙ inv.same_bytes;
-      moved = omega (arith, c.in_ok-slot.ensures.moved, mul-add g.row.WIDTH i 1);
+      same_bytes = c.in_ok-slot.ensures.moved.same_bytes ∙ inv.same_bytes;
+      moved = omega (arith, c.in_ok-slot.ensures.moved.moved, mul-add g.row.WIDTH i 1);
       left = inv.left ∙ fields-more field g.row.WIDTH c.args.limits.count i start c.loop-slot.slot-items bs x (omega arith) (omega arith) right;
     }
 

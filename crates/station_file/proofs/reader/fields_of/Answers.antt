@@ -15,7 +15,7 @@ returns-then-unread-bytes c =
     let e = c.in_ok-_same.ensures in
     let f = c.in_ok-places.ensures in
     let end : c.read_each-2.new.unread.at ≡ 6 + 7 * n = omega arith in
-    ap Err (c.refused.ensures ∙ ap not_right end) ∙ some_after (6 + 7 * n) bs (contents points (take n c.in_ok-instructions.instructions) (take n c.in_ok-places.places)) (omega arith) ∙ read-on bs _ _ _ _ _ _ _ _ points n _ _ _ a.value a.bytes a.moved b.value b.bytes b.moved d.value d.bytes d.moved e.value e.bytes e.moved f.value
+    ap Err (c.refused.ensures ∙ ap not_right end) ∙ some_after (6 + 7 * n) bs (contents points (take n c.in_ok-instructions.instructions) (take n c.in_ok-places.places)) (omega arith) ∙ read-on bs _ _ _ _ _ _ _ _ points n _ _ _ a.value a.moved.same_bytes a.moved.moved b.value b.moved.same_bytes b.moved.moved d.value d.moved.same_bytes d.moved.moved e.value e.moved.same_bytes e.moved.moved f.value
 
 pub returns : goal.returns
 returns c =
@@ -28,4 +28,4 @@ returns c =
     let e = c.in_ok-_same.ensures in
     let f = c.in_ok-places.ensures in
     let end : c.read_each-2.new.unread.at ≡ 6 + 7 * n = omega arith in
-    none_after (6 + 7 * n) bs (contents points (take n c.in_ok-instructions.instructions) (take n c.in_ok-places.places)) (omega arith) ∙ read-on bs _ _ _ _ _ _ _ _ points n _ _ _ a.value a.bytes a.moved b.value b.bytes b.moved d.value d.bytes d.moved e.value e.bytes e.moved f.value
+    none_after (6 + 7 * n) bs (contents points (take n c.in_ok-instructions.instructions) (take n c.in_ok-places.places)) (omega arith) ∙ read-on bs _ _ _ _ _ _ _ _ points n _ _ _ a.value a.moved.same_bytes a.moved.moved b.value b.moved.same_bytes b.moved.moved d.value d.moved.same_bytes d.moved.moved e.value e.moved.same_bytes e.moved.moved f.value

@@ -15,7 +15,7 @@ returns-clause-value c =
     let at = c.args.unread.now.at in
     let bs = c.args.unread.now.bytes.now in
     let code = c.in_ok-code.code in
-    let operand : c.four-operand.result ≡ four_of (drop (at + 1) bs) = cc (c.four-operand.ensures.value, c.in_ok-code.ensures.moved, c.in_ok-code.ensures.bytes) in
+    let operand : c.four-operand.result ≡ four_of (drop (at + 1) bs) = cc (c.four-operand.ensures.value, c.in_ok-code.ensures.moved.moved, c.in_ok-code.ensures.moved.same_bytes) in
     let decoded : c.and_then.result ≡ with_operand points count code c.four-operand.result = search rules in
     let judged : c.ok_or.result ≡ or_wrong c.code.new.self.at c.and_then.result = search rules in
-    judged ∙ ap (λ n. or_wrong n c.and_then.result) c.in_ok-code.ensures.moved ∙ ap (or_wrong (at + 1)) decoded ∙ instruction-there points count at code bs c.four-operand.result c.in_ok-code.ensures.value operand
+    judged ∙ ap (λ n. or_wrong n c.and_then.result) c.in_ok-code.ensures.moved.moved ∙ ap (or_wrong (at + 1)) decoded ∙ instruction-there points count at code bs c.four-operand.result c.in_ok-code.ensures.value operand
