@@ -83,7 +83,7 @@ reading bs = then (count_field 1 64 0 bs) (λ points. then (count_field 1 1024 2
 
 -- what a file that was read holds: as much of its slots as it counts
 abbrev pub contents_of : StationFile → Contents
-contents_of f = contents f.points (take f.count f.instructions) (take f.count f.places)
+contents_of f = contents f.counts.points (take f.counts.instructions f.instructions) (take f.counts.instructions f.places)
 
 abbrev pub told : Result StationFile Fault → Result Contents Fault
 told (Ok f) = Ok (contents_of f)

@@ -8,7 +8,7 @@ ghost use Rattle.station_file.specs.Reading.{instruction_field, place_field, fie
 
 use crate::MOST_INSTRUCTIONS;
 use crate::bytes::put;
-use crate::limits::Limits;
+use crate::counts::Counts;
 use crate::operand::{decode, operand_of};
 use crate::refusals::refused;
 use crate::unread::Unread;
@@ -23,8 +23,8 @@ pub(crate) trait Field<const WIDTH: usize>: Copy {
     fn to_bytes(self) -> [u8; WIDTH]
         ensures { result ≡ bytes_of self };
 
-    fn read(unread: &mut Unread<'_>, limits: Limits) -> Result<Self, Fault>
-        ensures value { result ≡ field_of limits.points limits.count unread.old.at (rest_of unread.old) }
+    fn read(unread: &mut Unread<'_>, counts: Counts) -> Result<Self, Fault>
+        ensures value { result ≡ field_of counts.points counts.instructions unread.old.at (rest_of unread.old) }
         ensures moved { OnOk result (MovesOn WIDTH unread.old unread.new) };
 
     ghost sized: { (x : Self) → length (bytes_of x) ≡ WIDTH };
@@ -43,12 +43,12 @@ impl Field<5> for Instruction {
         [self.code(), a, b, c, d]
     }
 
-    fn read(unread: &mut Unread<'_>, limits: Limits) -> Result<Instruction, Fault> {
+    fn read(unread: &mut Unread<'_>, counts: Counts) -> Result<Instruction, Fault> {
         let code = unread.code()?;
         let at = unread.at;
         let operand = unread.four();
         operand
-            .and_then(|operand| decode(code, operand, limits))
+            .and_then(|operand| decode(code, operand, counts))
             .ok_or(refused(FileCause::NoFile, at))
     }
 }
@@ -65,7 +65,7 @@ impl Field<2> for u16 {
         self.to_le_bytes()
     }
 
-    fn read(unread: &mut Unread<'_>, _limits: Limits) -> Result<u16, Fault> {
+    fn read(unread: &mut Unread<'_>, _counts: Counts) -> Result<u16, Fault> {
         let at = unread.at;
         unread.two().ok_or(refused(FileCause::NoFile, at))
     }
@@ -87,15 +87,15 @@ pub(crate) fn put_each<T: Field<WIDTH>, const WIDTH: usize>(
 // As many as the file counts, in the first of the slots.
 pub(crate) fn read_each<T: Field<WIDTH>, const WIDTH: usize>(
     unread: &mut Unread<'_>,
-    limits: Limits,
+    counts: Counts,
     blank: T,
 ) -> Result<[T; MOST_INSTRUCTIONS], Fault>
-    ensures value { filled limits.count result ≡ fields (T.field_of limits.points limits.count) WIDTH limits.count [] unread.old.at (rest_of unread.old) }
-    ensures moved { OnOk result (MovesOn (WIDTH * limits.count) unread.old unread.new) }
+    ensures value { filled counts.instructions result ≡ fields (T.field_of counts.points counts.instructions) WIDTH counts.instructions [] unread.old.at (rest_of unread.old) }
+    ensures moved { OnOk result (MovesOn (WIDTH * counts.instructions) unread.old unread.new) }
 {
     let mut slots = [blank; MOST_INSTRUCTIONS];
-    for slot in slots[..limits.count].iter_mut() {
-        *slot = T::read(unread, limits)?;
+    for slot in slots[..counts.instructions].iter_mut() {
+        *slot = T::read(unread, counts)?;
     }
     Ok(slots)
 }

@@ -2,9 +2,9 @@
 #![tactic(auto)]
 
 mod bytes;
+mod counts;
 mod fields;
 mod file;
-mod limits;
 mod operand;
 mod reader;
 mod refusals;

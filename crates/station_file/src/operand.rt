@@ -4,7 +4,7 @@ ghost use Rattle.station_file.specs.Layout.{operand_of};
 ghost use Rattle.station_file.specs.Rules.{allowed, Held};
 ghost use Rattle.station_file.specs.Operands.{decoded};
 
-use crate::limits::Limits;
+use crate::counts::Counts;
 use arith::Comparison;
 use instructions::Instruction;
 
@@ -33,14 +33,14 @@ pub(crate) fn is_allowed(instruction: Instruction, points: usize, count: usize) 
 }
 
 // The instruction of a code byte and an operand, if there is one that the file allows.
-pub(crate) fn decode(code: u8, operand: u32, limits: Limits) -> Option<Instruction>
-    ensures { result ≡ decoded limits.points limits.count code operand }
+pub(crate) fn decode(code: u8, operand: u32, counts: Counts) -> Option<Instruction>
+    ensures { result ≡ decoded counts.points counts.instructions code operand }
 {
-    instruction_of(code, operand).filter(|instruction| is_allowed(
-        *instruction,
-        limits.points,
-        limits.count,
-    ))
+    let Counts {
+        points,
+        instructions,
+    } = counts;
+    instruction_of(code, operand).filter(|found| is_allowed(*found, points, instructions))
 }
 
 // Any byte is a point here, and any number of two bytes an address.

@@ -3,9 +3,9 @@ ghost use Rattle.std.specs.Prelude.{◌≡◌};
 ghost use Rattle.station_file.specs.Reading.{reading, told, contents_of};
 ghost use Rattle.station_file.specs.Laws.{ReadsBack, OnlyFiles};
 
+use crate::counts::Counts;
 use crate::fields::read_each;
 use crate::file::StationFile;
-use crate::limits::Limits;
 use crate::refusals::refused;
 use crate::unread::Unread;
 use crate::{MOST_INSTRUCTIONS, MOST_POINTS};
@@ -24,19 +24,19 @@ impl StationFile {
     pub fn points(&self) -> usize
         ensures { result ≡ (contents_of self.now).points }
     {
-        self.points
+        self.counts.points
     }
 
     pub fn instructions(&self) -> &[Instruction]
         ensures { result.now ≡ (contents_of self.now).code }
     {
-        &self.instructions[0..self.count]
+        &self.instructions[0..self.counts.instructions]
     }
 
     pub fn places(&self) -> &[u16]
         ensures { result.now ≡ (contents_of self.now).places }
     {
-        &self.places[0..self.count]
+        &self.places[0..self.counts.instructions]
     }
 }
 
@@ -45,18 +45,19 @@ fn fields_of(bytes: &[u8]) -> Result<StationFile, Fault>
     ensures { told result ≡ reading bytes.now }
 {
     let mut unread = Unread { bytes, at: 0 };
-    let points = unread.count(1, MOST_POINTS)?;
-    let count = unread.count(1, MOST_INSTRUCTIONS)?;
-    let limits = Limits { points, count };
-    let instructions = read_each(&mut unread, limits, Instruction::Pop)?;
-    let _same = unread.count(count, count)?;
-    let places = read_each(&mut unread, limits, 0)?;
+    let counts = Counts {
+        points: unread.count(1, MOST_POINTS)?,
+        instructions: unread.count(1, MOST_INSTRUCTIONS)?,
+    };
+    let instructions = read_each(&mut unread, counts, Instruction::Pop)?;
+    // as many places as there are instructions
+    unread.count(counts.instructions, counts.instructions)?;
+    let places = read_each(&mut unread, counts, 0)?;
     if unread.at < bytes.len() {
         return Err(refused(FileCause::NoFile, unread.at));
     }
     Ok(StationFile {
-        points,
-        count,
+        counts,
         instructions,
         places,
     })

@@ -4,5 +4,5 @@ use Rattle.station_file.proofs.operand.decode.Goals as goal
 
 pub returns : goal.returns
 returns c =
-    let e : c.filter.result ≡ if_allowed c.args.limits.points c.args.limits.count c.instruction_of.result = search rules in
-    e ∙ ap (if_allowed c.args.limits.points c.args.limits.count) c.instruction_of.ensures ∙ decoded-allowed c.args.limits.points c.args.limits.count c.args.operand c.args.limits.few_points c.args.limits.few c.args.code
+    let e : c.filter.result ≡ if_allowed c.args.counts.points c.args.counts.instructions c.instruction_of.result = search rules in
+    e ∙ ap (if_allowed c.args.counts.points c.args.counts.instructions) c.instruction_of.ensures ∙ decoded-allowed c.args.counts.points c.args.counts.instructions c.args.operand c.args.counts.few_points c.args.counts.few c.args.code

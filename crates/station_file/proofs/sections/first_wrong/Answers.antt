@@ -26,12 +26,5 @@ loop-i-preserved c =
     let allows = sym c.if-not-is_allowed.ensures.value in
     (omega arith, c.loop-i.invariant.1 ∙ wrong-later c.args.points (length is) c.loop-i.i is _ h (and_from _ _ (lt-ltb c.loop-i.i 1024 (omega arith)) allows), each_more (RightInstruction c.args.points (length is)) c.loop-i.i is _ h c.loop-i.invariant.2 (allows, c.if-not-is_allowed.ensures.held))
 
-pub returns : goal.returns
-returns c =
-    let is = c.args.instructions.now in
-    let h : length is ≤ c.loop-i.i = omega arith in
-    record {
-      value = sym (c.loop-i.invariant.1 ∙ wrong-none c.args.points (length is) c.loop-i.i is h);
-      few = λ _. omega arith;
-      right = λ _. subst (Each (RightInstruction c.args.points (length is))) (take_all c.loop-i.i is h) c.loop-i.invariant.2;
-    }
+pub returns-clause-value : goal.returns-clause-value
+returns-clause-value c = sym (c.loop-i.invariant.1 ∙ wrong-none c.args.points (length c.args.instructions.now) c.loop-i.i c.args.instructions.now (omega arith))

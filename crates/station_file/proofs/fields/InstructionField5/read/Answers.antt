@@ -10,8 +10,8 @@ instruction-there points count at c bs o e f =
 
 pub returns-clause-value : goal.returns-clause-value
 returns-clause-value c =
-    let points = c.args.limits.points in
-    let count = c.args.limits.count in
+    let points = c.args.counts.points in
+    let count = c.args.counts.instructions in
     let at = c.args.unread.now.at in
     let bs = c.args.unread.now.bytes.now in
     let code = c.in_ok-code.code in

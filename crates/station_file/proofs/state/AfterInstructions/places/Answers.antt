@@ -6,20 +6,18 @@ use Rattle.station_file.proofs.Sectioned.{length-places, no_room, is-wrong, is-w
 use Rattle.station_file.proofs.Whole.{completes}
 use Rattle.station_file.proofs.state.AfterInstructions.places.Goals as goal
 
-pub returns-then-saturating_sub-length : goal.returns-then-saturating_sub-length
-returns-then-saturating_sub-length c =
+pub returns-then-saturating_sub-length-clause-value : goal.returns-then-saturating_sub-length-clause-value
+returns-then-saturating_sub-length-clause-value c =
     let s = c.args.self in
     let ps = c.args.places.now in
-    let bs = c.args.bytes.now in
-    record { value = no_room s (finished s ps) s.at (2 + 2 * length ps) (places_section ps) (wrong_places s.count (length ps)) bs (length-places ps) _ c.refused.ensures (omega arith); back = tt }
+    no_room s (finished s ps) s.at (2 + 2 * length ps) (places_section ps) (wrong_places s.count (length ps)) c.args.bytes.now (length-places ps) _ c.refused.ensures (omega arith)
 
-pub returns-in-Some : goal.returns-in-Some
-returns-in-Some c =
+pub returns-in-Some-clause-value : goal.returns-in-Some-clause-value
+returns-in-Some-clause-value c =
     let s = c.args.self in
     let ps = c.args.places.now in
-    let bs = c.args.bytes.now in
     let wrong : wrong_places s.count (length ps) ≡ Some c.in-Some.index = cc (c.in-Some.ensures, c.from.ensures) in
-    record { value = is-wrong s (finished s ps) s.at (2 + 2 * length ps) (places_section ps) (wrong_places s.count (length ps)) bs (length-places ps) _ _ c.refused-in-Some.ensures (omega arith) wrong; back = tt }
+    is-wrong s (finished s ps) s.at (2 + 2 * length ps) (places_section ps) (wrong_places s.count (length ps)) c.args.bytes.now (length-places ps) _ _ c.refused-in-Some.ensures (omega arith) wrong
 
 pub returns : goal.returns
 returns c =

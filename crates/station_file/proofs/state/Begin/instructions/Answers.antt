@@ -5,21 +5,19 @@ use Rattle.station_file.proofs.Sectioned.{length-code, no_room, is-wrong, is-wri
 use Rattle.station_file.proofs.Whole.{begins}
 use Rattle.station_file.proofs.state.Begin.instructions.Goals as goal
 
-pub returns-then-saturating_sub-size : goal.returns-then-saturating_sub-size
-returns-then-saturating_sub-size c =
+pub returns-then-saturating_sub-size-clause-value : goal.returns-then-saturating_sub-size-clause-value
+returns-then-saturating_sub-size-clause-value c =
     let s = c.args.self in
     let p = c.args.points in
     let is = c.args.instructions.now in
-    let bs = c.args.bytes.now in
-    record { value = no_room s (after_code s p is) s.at (4 + 5 * length is) (code_section p is) (wrong_code p is) bs (length-code p is) _ c.refused.ensures (omega arith); opens = tt }
+    no_room s (after_code s p is) s.at (4 + 5 * length is) (code_section p is) (wrong_code p is) c.args.bytes.now (length-code p is) _ c.refused.ensures (omega arith)
 
-pub returns-in-Some : goal.returns-in-Some
-returns-in-Some c =
+pub returns-in-Some-clause-value : goal.returns-in-Some-clause-value
+returns-in-Some-clause-value c =
     let s = c.args.self in
     let p = c.args.points in
     let is = c.args.instructions.now in
-    let bs = c.args.bytes.now in
-    record { value = is-wrong s (after_code s p is) s.at (4 + 5 * length is) (code_section p is) (wrong_code p is) bs (length-code p is) _ _ c.refused-in-Some.ensures (omega arith) (sym c.in-Some.ensures.value); opens = tt }
+    is-wrong s (after_code s p is) s.at (4 + 5 * length is) (code_section p is) (wrong_code p is) c.args.bytes.now (length-code p is) _ _ c.refused-in-Some.ensures (omega arith) (sym c.in-Some.ensures.value)
 
 pub returns : goal.returns
 returns c =
