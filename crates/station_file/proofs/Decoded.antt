@@ -116,7 +116,7 @@ comparison-only : (w : ℕ) (r : Comparison) → comparison_at w ≡ Some r → 
 comparison-only w r e =
     let P : Option Comparison → Type 0 = λ o. (s : Comparison) → o ≡ Some s → comparison_number s ≡ w in
     let is : (k : Comparison) → eqb w (comparison_number k) ≡ true → P (Some k) = λ k t s f. let g : k ≡ s = cc f in ap comparison_number (sym g) ∙ sym (eqb-true w (comparison_number k) t) in
-    cond_both (eqb w 0) _ _ P (is Less) (λ _. cond_both (eqb w 1) _ _ P (is LessOrEqual) (λ _. cond_both (eqb w 2) _ _ P (is Greater) (λ _. cond_both (eqb w 3) _ _ P (is GreaterOrEqual) (λ _. cond_both (eqb w 4) _ _ P (is Equal) (λ _. cond_both (eqb w 5) _ _ P (is NotEqual) (λ _ s f. let z : ◌≡◌ {A = ℕ} 0 1 = cc f in absurd (omega arith))))))) r e
+    cond_both (eqb w 0) _ _ P (is Less) (λ _. cond_both (eqb w 1) _ _ P (is LessOrEqual) (λ _. cond_both (eqb w 2) _ _ P (is Greater) (λ _. cond_both (eqb w 3) _ _ P (is GreaterOrEqual) (λ _. cond_both (eqb w 4) _ _ P (is Equal) (λ _. cond_both (eqb w 5) _ _ P (is NotEqual) (λ _ s f. cc f)))))) r e
 
 -- what was decoded has this code and this operand, and may stand there
 pub record Decodes (points count c w : ℕ) (i : Instruction) : Type 0 where
@@ -132,7 +132,7 @@ module _ (points count c w : ℕ) (fits : w < 2 ^ 32) where
   one j d i e = let g : j ≡ i = cc e in subst (Decodes points count c w) g d
 
   none : Only None
-  none i e = let z : ◌≡◌ {A = ℕ} 0 1 = cc e in absurd (omega arith)
+  none i e = cc e
 
   code_is : (k : ℕ) → eqb c k ≡ true → k ≡ c
   code_is k t = sym (eqb-true c k t)
