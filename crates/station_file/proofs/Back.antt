@@ -59,4 +59,4 @@ file-back f r =
     let m : within n n (length ps) ≡ true = and_from _ _ (le-leb n (length ps) (omega (arith, r.as_many))) (le-leb (length ps) n (omega (arith, r.as_many))) in
     let i = ap (count_field n n (4 + 5 * n)) code-end ∙ count-back n n (4 + 5 * n) (length ps) (flat_map two_bytes ps) m (omega (arith, r.as_many)) in
     let j = ap (fields place_field 2 n [] (6 + 5 * n)) count-end ∙ ap (λ k. fields place_field 2 k [] (6 + 5 * n) (flat_map two_bytes ps ++ [])) (sym r.as_many) ∙ fields_back place_field 2 two_bytes RightPlace (λ _. refl) place-back ps [] (6 + 5 * n) [] r.places in
-    sym (none_after (6 + 7 * n) bs f size ∙ read_all bs p n (length ps) is ps (sym e) (sym g) (sym h) (sym i) (sym j))
+    sym (none_after (6 + 7 * n) bs f size ∙ read_all bs p n (length ps) is (Ok ps) (sym e) (sym g) (sym h) (sym i) (sym j))

@@ -1,7 +1,8 @@
 -- Instructions and their codes and operands, both ways.
-use Rattle.std.proofs.Common.{◌≡◌, ℕ, ◌^◌, ◌<◌, ◌≤◌, true, eqb, ltb, leb, Some, None, Option, sym, refl, ap, ◌∙◌, subst, arith, w32, SFits, to_z}
+use Rattle.std.proofs.Common.{◌≡◌, ℕ, ◌^◌, ◌<◌, ◌≤◌, Bool, true, false, cond, eqb, ltb, leb, Some, None, Option, sym, refl, ap, ◌∙◌, subst, arith, w32, SFits, to_z}
 use borrow.Author.Gap.{read_sfits}
 use Rattle.std.proofs.lemmas.Bool.{cond-true, cond_both, eqb-true, ltb-true, leb-true}
+use Rattle.std.proofs.lemmas.Bool.Decides.{nat_tests}
 use Rattle.std.proofs.lemmas.Int.{to_z-of_z, of_z-to_z, ints}
 use Rattle.arith.specs.declared.comparison.Comparison.{Comparison}
 use Rattle.arith.specs.declared.comparison.Comparison.TheVariants.{Less, LessOrEqual, Greater, GreaterOrEqual, Equal, NotEqual}
@@ -10,8 +11,8 @@ use Rattle.instructions.specs.declared.instruction.Instruction.{Instruction}
 use Rattle.instructions.specs.declared.instruction.Instruction.TheVariants.{Push, Load, Save, Pop, Add, Sub, Mul, Div, Cmp, Inv, And, Or, JumpF, Jump}
 use Rattle.instructions.specs.Codes.{code_of}
 use Rattle.station_file.specs.Layout.{operand_of}
-use Rattle.station_file.specs.Rules.{RightInstruction}
-use Rattle.station_file.specs.Operands.{plain, comparing, decoded}
+use Rattle.station_file.specs.Rules.{allowed, RightInstruction}
+use Rattle.station_file.specs.Operands.{plain, on_point, to_address, comparing, decoded}
 
 pub code-low : (i : Instruction) → leb (code_of i) 13 ≡ true
 code-low (Push n) = refl
@@ -78,11 +79,44 @@ module _ (points count : ℕ) (few-points : points ≤ 64) (few : count ≤ 1024
   decoded-back (JumpF a) r = cond-true _ (Some (JumpF a)) None r.0
   decoded-back (Jump a) r = cond-true _ (Some (Jump a)) None r.0
 
+-- what stands once it is judged
+abbrev pub if_allowed : ℕ → ℕ → Option Instruction → Option Instruction
+if_allowed points count (Some i) = cond (allowed points count i) (Some i) None
+if_allowed points count None = None
+
+module _ (points count w : ℕ) (few-points : points ≤ 64) (few : count ≤ 1024) where
+  either : (b : Bool) (x y x' y' : Option Instruction) → if_allowed points count x ≡ x' → if_allowed points count y ≡ y' → if_allowed points count (cond b x y) ≡ cond b x' y'
+  either true x y x' y' e f = e
+  either false x y x' y' e f = f
+
+  plain-allowed : (i : Instruction) → allowed points count i ≡ true → if_allowed points count (plain w i) ≡ plain w i
+  plain-allowed i e = either (eqb w 0) (Some i) None (Some i) None (cond-true _ (Some i) None e) refl
+
+  point-allowed : (make : ℕ → Instruction) → allowed points count (make w) ≡ ltb w points → if_allowed points count (on_point 256 w make) ≡ on_point points w make
+  point-allowed make e =
+      cond_both (ltb w 256) _ _ (λ o. if_allowed points count o ≡ on_point points w make) (λ _. ap (λ b. cond b (Some (make w)) None) e) (λ f. grind (arith, nat_tests))
+
+  address-allowed : (make : ℕ → Instruction) → allowed points count (make w) ≡ leb w count → if_allowed points count (to_address 65535 w make) ≡ to_address count w make
+  address-allowed make e =
+      cond_both (leb w 65535) _ _ (λ o. if_allowed points count o ≡ to_address count w make) (λ _. ap (λ b. cond b (Some (make w)) None) e) (λ f. grind (arith, nat_tests))
+
+  comparing-allowed : (o : Option Comparison) → if_allowed points count (comparing o) ≡ comparing o
+  comparing-allowed (Some r) = refl
+  comparing-allowed None = refl
+
+  pub decoded-allowed : (c : ℕ) → if_allowed points count (decoded 256 65535 c w) ≡ decoded points count c w
+  decoded-allowed c =
+      either (eqb c 0) _ _ _ _ refl (either (eqb c 1) _ _ _ _ (point-allowed Load refl) (either (eqb c 2) _ _ _ _ (point-allowed Save refl)
+      (either (eqb c 3) _ _ _ _ (plain-allowed Pop refl) (either (eqb c 4) _ _ _ _ (plain-allowed Add refl) (either (eqb c 5) _ _ _ _ (plain-allowed Sub refl)
+      (either (eqb c 6) _ _ _ _ (plain-allowed Mul refl) (either (eqb c 7) _ _ _ _ (plain-allowed Div refl) (either (eqb c 8) _ _ _ _ (comparing-allowed (comparison_at w))
+      (either (eqb c 9) _ _ _ _ (plain-allowed Inv refl) (either (eqb c 10) _ _ _ _ (plain-allowed And refl) (either (eqb c 11) _ _ _ _ (plain-allowed Or refl)
+      (either (eqb c 12) _ _ _ _ (address-allowed JumpF refl) (either (eqb c 13) _ _ _ _ (address-allowed Jump refl) refl)))))))))))))
+
 comparison-only : (w : ℕ) (r : Comparison) → comparison_at w ≡ Some r → comparison_number r ≡ w
 comparison-only w r e =
     let P : Option Comparison → Type 0 = λ o. (s : Comparison) → o ≡ Some s → comparison_number s ≡ w in
     let is : (k : Comparison) → eqb w (comparison_number k) ≡ true → P (Some k) = λ k t s f. let g : k ≡ s = cc f in ap comparison_number (sym g) ∙ sym (eqb-true w (comparison_number k) t) in
-    cond_both (eqb w 0) _ _ P (is Less) (λ _. cond_both (eqb w 1) _ _ P (is LessOrEqual) (λ _. cond_both (eqb w 2) _ _ P (is Greater) (λ _. cond_both (eqb w 3) _ _ P (is GreaterOrEqual) (λ _. cond_both (eqb w 4) _ _ P (is Equal) (λ _. cond_both (eqb w 5) _ _ P (is NotEqual) (λ _ s f. let z : ◌≡◌ {A = ℕ} 0 1 = cc f in absurd (omega arith))))))) r e
+    cond_both (eqb w 0) _ _ P (is Less) (λ _. cond_both (eqb w 1) _ _ P (is LessOrEqual) (λ _. cond_both (eqb w 2) _ _ P (is Greater) (λ _. cond_both (eqb w 3) _ _ P (is GreaterOrEqual) (λ _. cond_both (eqb w 4) _ _ P (is Equal) (λ _. cond_both (eqb w 5) _ _ P (is NotEqual) (λ _ s f. cc f)))))) r e
 
 -- what was decoded has this code and this operand, and may stand there
 pub record Decodes (points count c w : ℕ) (i : Instruction) : Type 0 where
@@ -98,7 +132,7 @@ module _ (points count c w : ℕ) (fits : w < 2 ^ 32) where
   one j d i e = let g : j ≡ i = cc e in subst (Decodes points count c w) g d
 
   none : Only None
-  none i e = let z : ◌≡◌ {A = ℕ} 0 1 = cc e in absurd (omega arith)
+  none i e = cc e
 
   code_is : (k : ℕ) → eqb c k ≡ true → k ≡ c
   code_is k t = sym (eqb-true c k t)

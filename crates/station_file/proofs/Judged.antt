@@ -27,7 +27,7 @@ none-wrong points count i [] h e w = (tt, omega arith)
 none-wrong points count i (x ∷ xs) h e w =
     let on = first_wrong points count (suc i) xs in
     let passes = ltb i 1024 && allowed points count x in
-    let both = cond_both passes on (Some i) (λ o. o ≡ None → (passes ≡ true) × (on ≡ None)) (λ t f. (t, f)) (λ _ f. let z : ◌≡◌ {A = ℕ} 0 1 = cc f in absurd (omega arith)) w in
+    let both = cond_both passes on (Some i) (λ o. o ≡ None → (passes ≡ true) × (on ≡ None)) (λ t f. (t, f)) (λ _ f. cc f) w in
     let parts = and_parts (ltb i 1024) (allowed points count x) both.0 in
     let low = ltb-true i 1024 parts.0 in
     let rest = none-wrong points count (suc i) xs (omega arith) e.1 both.1 in

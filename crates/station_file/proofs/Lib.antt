@@ -2,7 +2,6 @@ pub mod Puts
 pub mod Eachs
 pub mod Judged
 pub mod Sectioned
-pub mod Starts
 pub mod Filled
 pub mod Chain
 pub mod Digits

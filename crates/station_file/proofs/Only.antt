@@ -21,30 +21,26 @@ Small bs = (i : ℕ) → get_or bs i 0 < 256
 small-drop : (k : ℕ) (bs : List ℕ) → Small bs → Small (drop k bs)
 small-drop k bs s i = subst (λ (n : ℕ). n < 256) (sym (get_or-drop k bs i 0)) (s (k + i))
 
--- an answer that was given is no refusal
-no_answer : {X : Type 0} (A : Type 0) (f : Fault) (x : X) → ◌≡◌ {A = Result X Fault} (Err f) (Ok x) → A
-no_answer A f x e = let z : ◌≡◌ {A = ℕ} 0 1 = cc e in absurd (omega arith)
-
 -- the two parts of something read after something else
 then-parts : {X Y : Type 0} (r : Result X Fault) (next : X → Result Y Fault) (y : Y) → then r next ≡ Ok y → (x : X) × (r ≡ Ok x) × (next x ≡ Ok y)
 then-parts (Ok x) next y e = (x, refl, e)
-then-parts (Err f) next y e = no_answer _ f y e
+then-parts (Err f) next y e = cc e
 
 or-wrong-parts : {X : Type 0} (at : ℕ) (o : Option X) (x : X) → or_wrong at o ≡ Ok x → o ≡ Some x
-or-wrong-parts at (Some y) x e = let g : y ≡ x = cc e in ap Some g
-or-wrong-parts at None x e = no_answer _ (not_right at) x e
+or-wrong-parts at (Some y) x e = cc e
+or-wrong-parts at None x e = cc e
 
 -- two bytes at the front
 two-front : (bs : List ℕ) (n : ℕ) → Small bs → two_of bs ≡ Some n → bs ≡ two_bytes n ++ drop 2 bs
-two-front [] n s e = let z : ◌≡◌ {A = ℕ} 0 1 = cc e in absurd (omega arith)
-two-front (a ∷ []) n s e = let z : ◌≡◌ {A = ℕ} 0 1 = cc e in absurd (omega arith)
+two-front [] n s e = cc e
+two-front (a ∷ []) n s e = cc e
 two-front (a ∷ b ∷ bs) n s e =
     let g : a + b * 256 ≡ n = cc e in
     ap (λ t. t ++ bs) (sym (two-only a b (s 0) (s 1)) ∙ ap two_bytes g)
 
 two-bound : (bs : List ℕ) (n : ℕ) → Small bs → two_of bs ≡ Some n → n < 65536
-two-bound [] n s e = let z : ◌≡◌ {A = ℕ} 0 1 = cc e in absurd (omega arith)
-two-bound (a ∷ []) n s e = let z : ◌≡◌ {A = ℕ} 0 1 = cc e in absurd (omega arith)
+two-bound [] n s e = cc e
+two-bound (a ∷ []) n s e = cc e
 two-bound (a ∷ b ∷ bs) n s e =
     let g : a + b * 256 ≡ n = cc e in
     let x = s 0 in
@@ -52,11 +48,11 @@ two-bound (a ∷ b ∷ bs) n s e =
     omega arith
 
 counted-parts : (low high : ℕ) (o : Option ℕ) (n : ℕ) → counted low high o ≡ Some n → (o ≡ Some n) × (within low high n ≡ true)
-counted-parts low high None n e = let z : ◌≡◌ {A = ℕ} 0 1 = cc e in absurd (omega arith)
+counted-parts low high None n e = cc e
 counted-parts low high (Some m) n e =
     cond_both (within low high m) (Some m) None (λ o. o ≡ Some n → (Some m ≡ Some n) × (within low high n ≡ true))
     (λ t f. let g : m ≡ n = cc f in (f, subst (λ (k : ℕ). within low high k ≡ true) g t))
-    (λ t f. let z : ◌≡◌ {A = ℕ} 0 1 = cc f in absurd (omega arith)) e
+    (λ t f. cc f) e
 
 count-only : (low high at n : ℕ) (bs : List ℕ) → Small bs → count_field low high at bs ≡ Ok n → (bs ≡ two_bytes n ++ drop 2 bs) × (within low high n ≡ true)
 count-only low high at n bs s e =
@@ -67,17 +63,17 @@ place-only : (at p : ℕ) (bs : List ℕ) → Small bs → place_field at bs ≡
 place-only at p bs s e = let g = or-wrong-parts at (two_of bs) p e in (two-front bs p s g, two-bound bs p s g)
 
 code-front : (bs : List ℕ) (c : ℕ) → code_byte bs ≡ Some c → bs ≡ c ∷ drop 1 bs
-code-front [] c e = let z : ◌≡◌ {A = ℕ} 0 1 = cc e in absurd (omega arith)
+code-front [] c e = cc e
 code-front (b ∷ bs) c e =
     cond_both (leb b 13) (Some b) None (λ o. o ≡ Some c → b ∷ bs ≡ c ∷ bs)
     (λ _ f. let g : b ≡ c = cc f in ap (λ k. k ∷ bs) g)
-    (λ _ f. let z : ◌≡◌ {A = ℕ} 0 1 = cc f in absurd (omega arith)) e
+    (λ _ f. cc f) e
 
 operand-front : (points count c : ℕ) (bs : List ℕ) (i : Instruction) → Small bs → with_operand points count c (four_of bs) ≡ Some i → (w : ℕ) × (bs ≡ four_bytes w ++ drop 4 bs) × (Decodes points count c w i)
-operand-front points count c [] i s e = let z : ◌≡◌ {A = ℕ} 0 1 = cc e in absurd (omega arith)
-operand-front points count c (a ∷ []) i s e = let z : ◌≡◌ {A = ℕ} 0 1 = cc e in absurd (omega arith)
-operand-front points count c (a ∷ b ∷ []) i s e = let z : ◌≡◌ {A = ℕ} 0 1 = cc e in absurd (omega arith)
-operand-front points count c (a ∷ b ∷ d ∷ []) i s e = let z : ◌≡◌ {A = ℕ} 0 1 = cc e in absurd (omega arith)
+operand-front points count c [] i s e = cc e
+operand-front points count c (a ∷ []) i s e = cc e
+operand-front points count c (a ∷ b ∷ []) i s e = cc e
+operand-front points count c (a ∷ b ∷ d ∷ []) i s e = cc e
 operand-front points count c (a ∷ b ∷ d ∷ f ∷ bs) i s e =
     let w = a + b * 256 + d * 65536 + f * 16777216 in
     let x0 = s 0 in
@@ -125,8 +121,8 @@ module _ {X : Type 0} (field : ℕ → List ℕ → Result X Fault) (w : ℕ) (l
       }
 
 nothing-more : (end : ℕ) (xs : List ℕ) (c f : Contents) → nothing_after end xs c ≡ Ok f → (xs ≡ []) × (c ≡ f)
-nothing-more end [] c f e = (refl, let g : c ≡ f = cc e in g)
-nothing-more end (x ∷ xs) c f e = no_answer _ (not_right end) f e
+nothing-more end [] c f e = (refl, cc e)
+nothing-more end (x ∷ xs) c f e = cc e
 
 same_count : (n m : ℕ) → within n n m ≡ true → m ≡ n
 same_count n m h =

@@ -1,15 +1,9 @@
 -- Bytes put into others: one after another they are put together, and a list of things is put down thing by thing.
 use Rattle.std.proofs.Common.{◌≡◌, ℕ, ◌+◌, ◌*◌, ◌<◌, ◌≤◌, List, [], ◌∷◌, ◌++◌, length, get_or, take, drop, set, sym, ap, ◌∙◌, mul-add, add-one, arith}
 use Rattle.std.specs.List.{flat_map}
+use Rattle.std.proofs.Math.Nat.{mul-le-mul_left}
 use Rattle.std.proofs.lemmas.List.{append_assoc, length-append, length-take-le, take-append-drop, take_at, drop_at, drop-drop, set_split, take_more, take_all, flat_map_more}
 use Rattle.station_file.specs.Layout.{put}
-
-pub put-nil : (at : ℕ) (bs : List ℕ) → put at [] bs ≡ bs
-put-nil at bs = take-append-drop at bs
-
--- one byte
-pub put_byte : (at v : ℕ) (bs : List ℕ) → at < length bs → set bs at v ≡ put at (v ∷ []) bs
-put_byte at v bs h = set_split bs at v h ∙ ap (λ t. take at bs ++ v ∷ t) (ap (λ n. drop n bs) (sym (add-one at)) ∙ sym (drop-drop 1 at bs))
 
 -- some bytes, and others right after them
 pub put-put : (at k : ℕ) (xs ys bs : List ℕ) → k ≡ at + length xs → k ≤ length bs → put k ys (put at xs bs) ≡ put at (xs ++ ys) bs
@@ -32,12 +26,9 @@ module _ {X : Type 0} (f : X → List ℕ) (k : ℕ) (sized : (x : X) → length
       omega (arith, length-append (f x) (flat_map f xs))
 
   -- one thing more
-  pub put-more : (at i : ℕ) (xs : List X) (bs cs ds : List ℕ) (d : X) → i < length xs → at + k * i ≤ length bs → cs ≡ put at (flat_map f (take i xs)) bs → ds ≡ put (at + k * i) (f (get_or xs i d)) cs → ds ≡ put at (flat_map f (take (i + 1) xs)) bs
-  put-more at i xs bs cs ds d h fit e g =
+  pub put-more : (at i : ℕ) (xs : List X) (bs cs ds : List ℕ) (d : X) → i < length xs → at + k * length xs ≤ length bs → cs ≡ put at (flat_map f (take i xs)) bs → ds ≡ put (at + k * i) (f (get_or xs i d)) cs → ds ≡ put at (flat_map f (take (i + 1) xs)) bs
+  put-more at i xs bs cs ds d h room e g =
       let n : length (flat_map f (take i xs)) ≡ k * i = length-joined (take i xs) ∙ ap (λ m. k * m) (length-take-le i xs (omega arith)) in
       let j : flat_map f (take i xs) ++ f (get_or xs i d) ≡ flat_map f (take (i + 1) xs) = flat_map_more f [] (take i xs) (get_or xs i d) ∙ ap (flat_map f) (sym (take_more xs i d h)) in
+      let fit : at + k * i ≤ length bs = omega (arith, mul-le-mul_left {m = i} {n = length xs} k (omega arith)) in
       g ∙ ap (put (at + k * i) (f (get_or xs i d))) e ∙ put-put at (at + k * i) (flat_map f (take i xs)) (f (get_or xs i d)) bs (ap (λ m. at + m) (sym n)) fit ∙ ap (λ t. put at t bs) j
-
-  -- all of them
-  pub put_all : (at i : ℕ) (xs : List X) (bs cs : List ℕ) → length xs ≤ i → cs ≡ put at (flat_map f (take i xs)) bs → cs ≡ put at (flat_map f xs) bs
-  put_all at i xs bs cs h e = e ∙ ap (λ t. put at (flat_map f t) bs) (take_all i xs h)

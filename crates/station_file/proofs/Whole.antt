@@ -19,7 +19,7 @@ use Rattle.station_file.proofs.Back.{file-back}
 counts-right : (points : ℕ) (code : List Instruction) → wrong_code points code ≡ None → (within 1 64 points && ltb 0 (length code)) ≡ true
 counts-right points code e =
     cond_both (within 1 64 points && ltb 0 (length code)) (first_wrong points (length code) 0 code) (Some 0) (λ o. o ≡ None → (within 1 64 points && ltb 0 (length code)) ≡ true)
-    (λ t _. t) (λ _ f. let z : ◌≡◌ {A = ℕ} 0 1 = cc f in absurd (omega arith)) e
+    (λ t _. t) (λ _ f. cc f) e
 
 pub begins : (s : Begin) (points : ℕ) (code : List Instruction) (bs cs : List ℕ) → wrong_code points code ≡ None → length code ≤ 1024 → RightCode points code → cs ≡ put s.at (code_section points code) bs → s ≡ begun → Begins points code cs (record { at = s.at + (4 + 5 * length code); count = length code })
 begins s points code bs cs w few right p e =

@@ -2,7 +2,7 @@
 -- order of the layout, each from the bytes that begin where it does, so one that is cut short or missing is wrong there.
 -- A code byte is a field, and so is its operand. What is read this way is just what the layout lays: that is a law
 -- on the reader's contract, so this page need not be believed, only compared with the refusals one wants.
-use Rattle.std.specs.Prelude.{ℕ, zero, suc, ◌+◌, ◌*◌, cond, List, [], ◌∷◌, ◌++◌, take, drop, Some, None, Ok, Err, Option, Result, nat_le}
+use Rattle.std.specs.Prelude.{ℕ, zero, suc, ◌+◌, ◌*◌, cond, List, [], ◌∷◌, ◌++◌, length, take, drop, Some, None, Ok, Err, Option, Result, nat_le}
 use Rattle.faults.specs.declared.fault.Fault.{Fault}
 use Rattle.instructions.specs.declared.instruction.Instruction.{Instruction}
 use Rattle.station_file.specs.declared.file.StationFile.{StationFile}
@@ -21,7 +21,10 @@ abbrev pub or_wrong : {X : Type 0} → ℕ → Option X → Result X Fault
 or_wrong at (Some x) = Ok x
 or_wrong at None = Err (not_right at)
 
--- the number at the front, none where it is cut short
+-- so many bytes at the front, and the number in them; none where they are cut short
+abbrev pub first_of : ℕ → List ℕ → Option (List ℕ)
+first_of n bs = cond (nat_le n (length bs)) (Some (take n bs)) None
+
 abbrev pub two_of : List ℕ → Option ℕ
 two_of [] = None
 two_of (a ∷ []) = None
@@ -80,7 +83,7 @@ reading bs = then (count_field 1 64 0 bs) (λ points. then (count_field 1 1024 2
 
 -- what a file that was read holds: as much of its slots as it counts
 abbrev pub contents_of : StationFile → Contents
-contents_of f = contents f.points (take f.count f.instructions) (take f.count f.places)
+contents_of f = contents f.counts.points (take f.counts.instructions f.instructions) (take f.counts.instructions f.places)
 
 abbrev pub told : Result StationFile Fault → Result Contents Fault
 told (Ok f) = Ok (contents_of f)

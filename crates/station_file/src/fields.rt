@@ -1,101 +1,101 @@
-// The fields of a file, each judged where it begins.
-ghost use Rattle.std.specs.Prelude.{◌≡◌, ◌+◌, ◌*◌, ◌^◌, ◌<◌, ◌≤◌, [], drop, IfOk};
-ghost use Rattle.station_file.specs.Reading.{count_field, code_byte, instruction_field, place_field, fields, filled};
+// What the two sections list, instructions and places: their bytes, both ways.
+ghost use Rattle.std.specs.Prelude.{◌≡◌, ℕ, ◌+◌, ◌*◌, ◌≤◌, List, [], Result, length, refl, OnOk};
+ghost use Rattle.std.specs.List.{flat_map};
+ghost use Rattle.faults.specs.declared.fault.Fault.{Fault};
+ghost use Rattle.station_file.specs.Layout.{two_bytes, instruction_bytes, put};
+ghost use Rattle.station_file.specs.Unread.{rest_of, MovesOn};
+ghost use Rattle.station_file.specs.Reading.{instruction_field, place_field, fields, filled};
 
 use crate::MOST_INSTRUCTIONS;
-use crate::bytes::{four_at, two_at};
-use crate::operand::decode;
-use crate::refusals::not_right;
-use faults::Fault;
+use crate::bytes::put;
+use crate::counts::Counts;
+use crate::operand::{decode, operand_of};
+use crate::refusals::refused;
+use crate::unread::Unread;
+use faults::{Fault, FileCause};
 use instructions::Instruction;
 
-pub(crate) fn count_at(bytes: &[u8], at: usize, low: usize, high: usize) -> Result<usize, Fault>
-    ensures value { result ≡ count_field low high at (drop at bytes.now) }
-    ensures inside { IfOk result (λ n. (low ≤ n) × (n ≤ high)) }
-{
-    match two_at(bytes, at) {
-        Some(count) => {
-            let count = count as usize;
-            if low <= count && count <= high {
-                Ok(count)
-            } else {
-                Err(not_right(at))
-            }
-        }
-        None => Err(not_right(at)),
+pub(crate) trait Field<const WIDTH: usize>: Copy {
+    ghost bytes_of: { Self → List ℕ };
+
+    ghost field_of: { ℕ → ℕ → ℕ → List ℕ → Result Self Fault };
+
+    fn to_bytes(self) -> [u8; WIDTH]
+        ensures { result ≡ bytes_of self };
+
+    fn read(unread: &mut Unread<'_>, counts: Counts) -> Result<Self, Fault>
+        ensures value { result ≡ field_of counts.points counts.instructions unread.old.at (rest_of unread.old) }
+        ensures moved { OnOk result (MovesOn WIDTH unread.old unread.new) };
+
+    ghost sized: { (x : Self) → length (bytes_of x) ≡ WIDTH };
+}
+
+// A code byte, and the operand that goes with it.
+impl Field<5> for Instruction {
+    ghost bytes_of = { instruction_bytes };
+
+    ghost field_of = { instruction_field };
+
+    ghost sized = { λ _. refl };
+
+    fn to_bytes(self) -> [u8; 5] {
+        let [a, b, c, d] = operand_of(self).to_le_bytes();
+        [self.code(), a, b, c, d]
+    }
+
+    fn read(unread: &mut Unread<'_>, counts: Counts) -> Result<Instruction, Fault> {
+        let code = unread.code()?;
+        let at = unread.at;
+        let operand = unread.four();
+        operand
+            .and_then(|operand| decode(code, operand, counts))
+            .ok_or(refused(FileCause::NoFile, at))
     }
 }
 
-fn code_at(bytes: &[u8], at: usize) -> Option<u8>
-    ensures { result ≡ code_byte (drop at bytes.now) }
-{
-    if at < bytes.len() && bytes[at] <= 13 {
-        Some(bytes[at])
-    } else {
-        None
+// A place in a sheet, which may be any number of two bytes.
+impl Field<2> for u16 {
+    ghost bytes_of = { two_bytes };
+
+    ghost field_of = { λ _ _. place_field };
+
+    ghost sized = { λ _. refl };
+
+    fn to_bytes(self) -> [u8; 2] {
+        self.to_le_bytes()
+    }
+
+    fn read(unread: &mut Unread<'_>, _counts: Counts) -> Result<u16, Fault> {
+        let at = unread.at;
+        unread.two().ok_or(refused(FileCause::NoFile, at))
     }
 }
 
-fn instruction_at(
-    bytes: &[u8],
+pub(crate) fn put_each<T: Field<WIDTH>, const WIDTH: usize>(
+    bytes: &mut [u8],
     at: usize,
-    points: usize,
-    count: usize,
-) -> Result<Instruction, Fault>
-    requires points_bound { points ≤ 64 }
-    requires count_bound { count ≤ 1024 }
-    requires at_bound { at < 2 ^ 32 }
-    ensures { result ≡ instruction_field points count at (drop at bytes.now) }
+    items: &[T],
+)
+    requires { at + WIDTH * length items.now ≤ length bytes.old }
+    ensures { bytes.new ≡ put at (flat_map T.bytes_of items.now) bytes.old }
 {
-    let Some(code) = code_at(bytes, at) else {
-        return Err(not_right(at));
-    };
-    let Some(operand) = four_at(bytes, at + 1) else {
-        return Err(not_right(at + 1));
-    };
-    match decode(code, operand, points, count) {
-        Some(instruction) => Ok(instruction),
-        None => Err(not_right(at + 1)),
+    for (i, item) in items.iter().enumerate() {
+        put(bytes, at + WIDTH * i, item.to_bytes());
     }
 }
 
-pub(crate) fn code_from(
-    bytes: &[u8],
-    points: usize,
-    count: usize,
-) -> Result<[Instruction; MOST_INSTRUCTIONS], Fault>
-    requires points_bound { points ≤ 64 }
-    requires count_bound { count ≤ 1024 }
-    ensures { filled count result ≡ fields (instruction_field points count) 5 count [] 4 (drop 4 bytes.now) }
+// As many as the file counts, in the first of the slots.
+pub(crate) fn read_each<T: Field<WIDTH>, const WIDTH: usize>(
+    unread: &mut Unread<'_>,
+    counts: Counts,
+    blank: T,
+) -> Result<[T; MOST_INSTRUCTIONS], Fault>
+    ensures value { filled counts.instructions result ≡ fields (T.field_of counts.points counts.instructions) WIDTH counts.instructions [] unread.old.at (rest_of unread.old) }
+    ensures moved { OnOk result (MovesOn (WIDTH * counts.instructions) unread.old unread.new) }
 {
-    let mut slots = [Instruction::Pop; MOST_INSTRUCTIONS];
-    for i in 0..count {
-        slots[i] = instruction_at(bytes, 4 + 5 * i, points, count)?;
-    }
-    Ok(slots)
-}
-
-fn place_at(bytes: &[u8], at: usize) -> Result<u16, Fault>
-    ensures { result ≡ place_field at (drop at bytes.now) }
-{
-    match two_at(bytes, at) {
-        Some(place) => Ok(place),
-        None => Err(not_right(at)),
-    }
-}
-
-pub(crate) fn places_from(
-    bytes: &[u8],
-    at: usize,
-    count: usize,
-) -> Result<[u16; MOST_INSTRUCTIONS], Fault>
-    requires at_bound { at < 2 ^ 32 }
-    requires count_bound { count ≤ 1024 }
-    ensures { filled count result ≡ fields place_field 2 count [] at (drop at bytes.now) }
-{
-    let mut slots = [0; MOST_INSTRUCTIONS];
-    for i in 0..count {
-        slots[i] = place_at(bytes, at + 2 * i)?;
+    let mut slots = [blank; MOST_INSTRUCTIONS];
+    for slot in slots[..counts.instructions].iter_mut() {
+        *slot = T::read(unread, counts)?;
     }
     Ok(slots)
 }

@@ -2,6 +2,7 @@
 #![tactic(auto)]
 
 mod bytes;
+mod counts;
 mod fields;
 mod file;
 mod operand;
@@ -9,6 +10,7 @@ mod reader;
 mod refusals;
 mod sections;
 mod state;
+mod unread;
 mod writer;
 
 pub use file::StationFile;

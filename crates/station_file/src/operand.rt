@@ -1,9 +1,10 @@
 // An instruction's operand, to the number that a file has for it and back.
-ghost use Rattle.std.specs.Prelude.{◌≡◌, ◌≤◌, if◌then◌else◌, Some, None, nat_le, nat_lt};
+ghost use Rattle.std.specs.Prelude.{◌≡◌};
 ghost use Rattle.station_file.specs.Layout.{operand_of};
 ghost use Rattle.station_file.specs.Rules.{allowed, Held};
-ghost use Rattle.station_file.specs.Operands.{decoded, plain};
+ghost use Rattle.station_file.specs.Operands.{decoded};
 
+use crate::counts::Counts;
 use arith::Comparison;
 use instructions::Instruction;
 
@@ -12,19 +13,10 @@ pub(crate) fn operand_of(instruction: Instruction) -> u32
 {
     match instruction {
         Instruction::Push(number) => number.cast_unsigned(),
-        Instruction::Load(point) => point as u32,
-        Instruction::Save(point) => point as u32,
-        Instruction::Cmp(comparison) => comparison.number() as u32,
-        Instruction::JumpF(address) => address as u32,
-        Instruction::Jump(address) => address as u32,
-        Instruction::Pop => 0,
-        Instruction::Add => 0,
-        Instruction::Sub => 0,
-        Instruction::Mul => 0,
-        Instruction::Div => 0,
-        Instruction::Inv => 0,
-        Instruction::And => 0,
-        Instruction::Or => 0,
+        Instruction::Load(point) | Instruction::Save(point) => u32::from(point),
+        Instruction::Cmp(comparison) => u32::from(u8::from(comparison)),
+        Instruction::JumpF(address) | Instruction::Jump(address) => u32::from(address),
+        _ => 0,
     }
 }
 
@@ -34,77 +26,44 @@ pub(crate) fn is_allowed(instruction: Instruction, points: usize, count: usize) 
     ensures held { Held instruction }
 {
     match instruction {
-        Instruction::Load(point) => (point as usize) < points,
-        Instruction::Save(point) => (point as usize) < points,
-        Instruction::JumpF(address) => address as usize <= count,
-        Instruction::Jump(address) => address as usize <= count,
-        Instruction::Push(_) => true,
-        Instruction::Pop => true,
-        Instruction::Add => true,
-        Instruction::Sub => true,
-        Instruction::Mul => true,
-        Instruction::Div => true,
-        Instruction::Cmp(_) => true,
-        Instruction::Inv => true,
-        Instruction::And => true,
-        Instruction::Or => true,
+        Instruction::Load(point) | Instruction::Save(point) => usize::from(point) < points,
+        Instruction::JumpF(address) | Instruction::Jump(address) => usize::from(address) <= count,
+        _ => true,
     }
 }
 
-// The instruction of a code byte and an operand, if there is one.
-pub(crate) fn decode(code: u8, operand: u32, points: usize, count: usize) -> Option<Instruction>
-    requires points_bound { points ≤ 64 }
-    requires count_bound { count ≤ 1024 }
-    ensures { result ≡ decoded points count code operand }
+// The instruction of a code byte and an operand, if there is one that the file allows.
+pub(crate) fn decode(code: u8, operand: u32, counts: Counts) -> Option<Instruction>
+    ensures { result ≡ decoded counts.points counts.instructions code operand }
 {
-    match code {
-        0 => Some(Instruction::Push(operand.cast_signed())),
-        1 => Some(Instruction::Load(point(operand, points)?)),
-        2 => Some(Instruction::Save(point(operand, points)?)),
-        3 => unless_given(operand, Instruction::Pop),
-        4 => unless_given(operand, Instruction::Add),
-        5 => unless_given(operand, Instruction::Sub),
-        6 => unless_given(operand, Instruction::Mul),
-        7 => unless_given(operand, Instruction::Div),
-        8 => Some(Instruction::Cmp(Comparison::from_number(operand)?)),
-        9 => unless_given(operand, Instruction::Inv),
-        10 => unless_given(operand, Instruction::And),
-        11 => unless_given(operand, Instruction::Or),
-        12 => Some(Instruction::JumpF(address(operand, count)?)),
-        13 => Some(Instruction::Jump(address(operand, count)?)),
-        _ => None,
-    }
+    let Counts {
+        points,
+        instructions,
+    } = counts;
+    instruction_of(code, operand).filter(|found| is_allowed(*found, points, instructions))
 }
 
-fn point(operand: u32, points: usize) -> Option<u8>
-    requires { points ≤ 64 }
-    ensures { result ≡ (if nat_lt operand points then Some operand else None) }
+// Any byte is a point here, and any number of two bytes an address.
+fn instruction_of(code: u8, operand: u32) -> Option<Instruction>
+    ensures { result ≡ decoded 256 65535 code operand }
 {
-    if (operand as usize) < points {
-        Some(operand as u8)
-    } else {
-        None
-    }
-}
-
-fn address(operand: u32, count: usize) -> Option<u16>
-    requires { count ≤ 1024 }
-    ensures { result ≡ (if nat_le operand count then Some operand else None) }
-{
-    if operand as usize <= count {
-        Some(operand as u16)
-    } else {
-        None
-    }
-}
-
-// An instruction that has no operand has a 0 there.
-fn unless_given(operand: u32, instruction: Instruction) -> Option<Instruction>
-    ensures { result ≡ plain operand instruction }
-{
-    if operand == 0 {
-        Some(instruction)
-    } else {
-        None
-    }
+    Some(match code {
+        0 => Instruction::Push(operand.cast_signed()),
+        1 => Instruction::Load(u8::try_from(operand).ok()?),
+        2 => Instruction::Save(u8::try_from(operand).ok()?),
+        8 => Instruction::Cmp(Comparison::try_from(operand).ok()?),
+        12 => Instruction::JumpF(u16::try_from(operand).ok()?),
+        13 => Instruction::Jump(u16::try_from(operand).ok()?),
+        // the others have no operand, and a 0 there
+        _ if operand != 0 => return None,
+        3 => Instruction::Pop,
+        4 => Instruction::Add,
+        5 => Instruction::Sub,
+        6 => Instruction::Mul,
+        7 => Instruction::Div,
+        9 => Instruction::Inv,
+        10 => Instruction::And,
+        11 => Instruction::Or,
+        _ => return None,
+    })
 }

@@ -3,11 +3,13 @@ ghost use Rattle.std.specs.Prelude.{◌≡◌};
 ghost use Rattle.station_file.specs.Reading.{reading, told, contents_of};
 ghost use Rattle.station_file.specs.Laws.{ReadsBack, OnlyFiles};
 
-use crate::fields::{code_from, count_at, places_from};
+use crate::counts::Counts;
+use crate::fields::read_each;
 use crate::file::StationFile;
-use crate::refusals::not_right;
+use crate::refusals::refused;
+use crate::unread::Unread;
 use crate::{MOST_INSTRUCTIONS, MOST_POINTS};
-use faults::Fault;
+use faults::{Fault, FileCause};
 use instructions::Instruction;
 
 impl StationFile {
@@ -22,19 +24,19 @@ impl StationFile {
     pub fn points(&self) -> usize
         ensures { result ≡ (contents_of self.now).points }
     {
-        self.points
+        self.counts.points
     }
 
     pub fn instructions(&self) -> &[Instruction]
         ensures { result.now ≡ (contents_of self.now).code }
     {
-        &self.instructions[0..self.count]
+        &self.instructions[0..self.counts.instructions]
     }
 
     pub fn places(&self) -> &[u16]
         ensures { result.now ≡ (contents_of self.now).places }
     {
-        &self.places[0..self.count]
+        &self.places[0..self.counts.instructions]
     }
 }
 
@@ -42,18 +44,20 @@ impl StationFile {
 fn fields_of(bytes: &[u8]) -> Result<StationFile, Fault>
     ensures { told result ≡ reading bytes.now }
 {
-    let points = count_at(bytes, 0, 1, MOST_POINTS)?;
-    let count = count_at(bytes, 2, 1, MOST_INSTRUCTIONS)?;
-    let instructions = code_from(bytes, points, count)?;
-    let _count = count_at(bytes, 4 + 5 * count, count, count)?;
-    let places = places_from(bytes, 6 + 5 * count, count)?;
-    let end = 6 + 7 * count;
-    if bytes.len() > end {
-        return Err(not_right(end));
+    let mut unread = Unread { bytes, at: 0 };
+    let counts = Counts {
+        points: unread.count(1, MOST_POINTS)?,
+        instructions: unread.count(1, MOST_INSTRUCTIONS)?,
+    };
+    let instructions = read_each(&mut unread, counts, Instruction::Pop)?;
+    // as many places as there are instructions
+    unread.count(counts.instructions, counts.instructions)?;
+    let places = read_each(&mut unread, counts, 0)?;
+    if unread.at < bytes.len() {
+        return Err(refused(FileCause::NoFile, unread.at));
     }
     Ok(StationFile {
-        points,
-        count,
+        counts,
         instructions,
         places,
     })

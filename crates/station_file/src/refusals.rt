@@ -1,24 +1,12 @@
-// The two refusals of files.
+// The refusals of files.
 ghost use Rattle.std.specs.Prelude.{◌≡◌};
-ghost use Rattle.station_file.specs.Writing.{no_space, not_right};
+ghost use Rattle.faults.specs.Numbers.{fault_of};
 
 use faults::{Fault, FileCause, Layer};
 
-pub(crate) fn no_space(size: usize) -> Fault
-    ensures { result ≡ no_space size }
+// The figure is the size that found no space, or the index or the position of what is wrong.
+pub(crate) fn refused(cause: FileCause, figure: usize) -> Fault
+    ensures { result ≡ fault_of (Layer.File cause) figure }
 {
-    Fault {
-        layer: Layer::File(FileCause::NoSpace),
-        figure: size as u64,
-    }
-}
-
-// What is wrong stands at this index or position.
-pub(crate) fn not_right(index: usize) -> Fault
-    ensures { result ≡ not_right index }
-{
-    Fault {
-        layer: Layer::File(FileCause::NoFile),
-        figure: index as u64,
-    }
+    Fault::new(Layer::File(cause), figure)
 }

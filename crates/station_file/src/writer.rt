@@ -3,11 +3,12 @@ ghost use Rattle.std.specs.Prelude.{◌≡◌};
 ghost use Rattle.station_file.specs.Writing.{begun, code_written, places_written};
 ghost use Rattle.station_file.specs.Laws.{Opens, Completes};
 
-use crate::bytes::put_two;
-use crate::refusals::{no_space, not_right};
-use crate::sections::{put_code, put_places, wrong_code, wrong_places};
+use crate::bytes::put;
+use crate::fields::{Field, put_each};
+use crate::refusals::refused;
+use crate::sections::{wrong_code, wrong_places};
 use crate::state::{AfterInstructions, Begin, Written};
-use faults::Fault;
+use faults::{Fault, FileCause};
 use instructions::Instruction;
 
 impl Begin {
@@ -30,15 +31,15 @@ impl Begin {
         let count = instructions.len();
         let size = 4 + 5 * count;
         if bytes.len().saturating_sub(self.at) < size {
-            return Err((self, no_space(size)));
+            return Err((self, refused(FileCause::NoSpace, size)));
         }
         if let Some(index) = wrong_code(points, instructions) {
-            return Err((self, not_right(index)));
+            return Err((self, refused(FileCause::NoFile, index)));
         }
         let at = self.at;
-        put_two(bytes, at, points as u16);
-        put_two(bytes, at + 2, count as u16);
-        put_code(bytes, at + 4, instructions);
+        put(bytes, at, (points as u16).to_bytes());
+        put(bytes, at + 2, (count as u16).to_bytes());
+        put_each(bytes, at + 4, instructions);
         Ok(AfterInstructions {
             at: at + size,
             count: count as u16,
@@ -58,14 +59,14 @@ impl AfterInstructions {
     {
         let length = 2 + 2 * places.len();
         if bytes.len().saturating_sub(self.at) < length {
-            return Err((self, no_space(length)));
+            return Err((self, refused(FileCause::NoSpace, length)));
         }
-        if let Some(index) = wrong_places(self.count as usize, places.len()) {
-            return Err((self, not_right(index)));
+        if let Some(index) = wrong_places(usize::from(self.count), places.len()) {
+            return Err((self, refused(FileCause::NoFile, index)));
         }
         let at = self.at;
-        put_two(bytes, at, self.count);
-        put_places(bytes, at + 2, places);
+        put(bytes, at, self.count.to_bytes());
+        put_each(bytes, at + 2, places);
         Ok(Written {
             length: at + length,
         })
