@@ -2,8 +2,8 @@
 use crate::listing::name_of;
 use crate::{Outcome, input};
 use excerpts::line_at;
+use faults::Fault;
 use names::NameList;
-use screen::Answer;
 use std::io;
 
 // How many steps a sheet may cost where nobody says it.
@@ -29,7 +29,7 @@ pub(crate) fn work_out(
     let mut after = before.as_slice().to_vec(rt.alloc())?;
     match screen::work_out(sheet.rows.as_slice(), after.as_mut_slice(), allowance) {
         Ok(outcome) => {
-            print_answer(rt, sheet.text.as_slice(), outcome.answer, outcome.cost)?;
+            print_answer(rt, sheet.text.as_slice(), outcome.stop, outcome.cost)?;
             print_points(rt, &names, before.as_slice(), after.as_slice())?;
             Ok(Outcome::Done)
         }
@@ -40,10 +40,10 @@ pub(crate) fn work_out(
     }
 }
 
-fn print_answer(rt: &HostRuntime, text: &[u8], answer: Answer, cost: u32) -> io::Result<()> {
-    match answer {
-        Answer::Ended => println!(rt; "ended, {cost} steps"),
-        Answer::Stopped(fault) => {
+fn print_answer(rt: &HostRuntime, text: &[u8], stop: Option<Fault>, cost: u32) -> io::Result<()> {
+    match stop {
+        None => println!(rt; "ended, {cost} steps"),
+        Some(fault) => {
             println!(rt; "stopped, {cost} steps")?;
             println!(rt; "{fault}")?;
             let line = line_at(text, usize::try_from(fault.figure).unwrap_or(0));

@@ -6,7 +6,7 @@ use Rattle.arith.specs.declared.operator.Operator.TheVariants.{Add, Sub, Mul, Di
 use Rattle.tables.specs.declared.kind.Kind.{Kind}
 use Rattle.tables.specs.declared.kind.Kind.TheVariants as kind
 use Rattle.tables.specs.declared.kind.Kind.TheVariants.{Number, Name, Truth, Compare, Not, And, Or, Set, If, IfElse, While, Joint}
-use Rattle.screen.specs.declared.value.Stop.{Stop}
+use Rattle.screen.specs.declared.halt.Stop.{Stop}
 use Rattle.screen.specs.Works.{Out, done, stop}
 
 -- the operator that a row of a sum's kind has
