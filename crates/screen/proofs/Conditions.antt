@@ -1,6 +1,7 @@
 -- The parts of a condition, by the kind of its last row.
-use Rattle.std.proofs.Common.{◌≡◌, ℕ, suc, ◌+◌, ◌-◌, ◌≤◌, Bool, List, length, get_or, pos, sym, refl, ap, ◌∙◌, arith}
+use Rattle.std.proofs.Common.{◌≡◌, ℕ, suc, ◌+◌, ◌-◌, ◌≤◌, Bool, List, length, get_or, pos, Some, sym, refl, ap, ◌∙◌, arith}
 use Rattle.arith.specs.declared.comparison.Comparison.{Comparison}
+use Rattle.arith.specs.declared.comparison.Comparison.TheVariants.{Less, LessOrEqual, Greater, GreaterOrEqual, Equal, NotEqual}
 use Rattle.arith.specs.Comparisons.{comparison_number}
 use Rattle.tables.specs.declared.kind.Kind.{Kind}
 use Rattle.tables.specs.declared.kind.Kind.TheVariants.{Truth, Compare, Not}
@@ -8,6 +9,7 @@ use Rattle.tables.specs.declared.row.Row.{Row}
 use Rattle.tables.specs.declared.sort.Sort.TheVariants as sort
 use Rattle.tables.specs.Trees.{Sum, Connective, both, either, Condition, truth, compare, negate, connect}
 use Rattle.tables.specs.Rows.{blank, row, bit, connective_kind, sum_size, condition_size}
+use Rattle.tables.specs.Kinds.{comparison_in}
 use Rattle.tables.proofs.OfSort.{length-in}
 use Rattle.screen.specs.Works.{connected}
 use Rattle.screen.specs.Values.{connected_at}
@@ -16,6 +18,15 @@ use Rattle.screen.proofs.Parting.{size_in_lem, end-in, one_in, Pair, pair, Sides
 
 pub compare-sides : {R : List Row} {end count q : ℕ} {k : Comparison} {l r : Sum} → ConditionAt R end count (compare q k l r) → Sides R end count l r (row Compare (pos (comparison_number k)) (suc (sum_size l + sum_size r)) q)
 compare-sides {R} {end} {count} {q} {k} {l} {r} at = sides R end count l r _ at.stands at.over.0 at.over.1
+
+-- a comparison's row names it
+pub names : (k : Comparison) → comparison_in (pos (comparison_number k)) ≡ Some k
+names Less = refl
+names LessOrEqual = refl
+names Greater = refl
+names GreaterOrEqual = refl
+names Equal = refl
+names NotEqual = refl
 
 abbrev kind_of : Condition → Kind
 kind_of (truth q b) = Truth

@@ -152,7 +152,7 @@ module _ (rows : List Row) (p : Points) (a : ℕ) (r : Result Outcome Fault) (p'
     where
       go : (k : Result (List Row) Fault) → table_checked (length p) rows ≡ k → (t : Sheet) × TableOf t rows p × (o : Out Points) × Ends t p o × (cost o ≤ a) × Tells o p x p'
       go (Ok rows') f =
-          let A = (accepts (length p) rows).only (ap is_ok f) in
+          let A = (accepts (length p) rows _ refl).only (ap is_ok f) in
           let T = A.0 in
           let of = table_of rows p T A.1 in
           earned-at x e T.tree of (rounds (suc a) T.tree p) refl (to-told T.tree of)

@@ -7,6 +7,7 @@ use Rattle.faults.specs.declared.causes.Layer.TheVariants as layer
 use Rattle.faults.specs.declared.causes.RunCause.{RunCause}
 use Rattle.faults.specs.declared.causes.RunCause.TheVariants.{AllowanceSpent}
 use Rattle.faults.specs.declared.fault.Fault.{Fault}
+use Rattle.faults.specs.Numbers.{fault_of}
 use Rattle.tables.specs.declared.row.Row.{Row}
 use Rattle.tables.specs.Trees.{Sheet}
 use Rattle.tables.specs.Checks.{table_checked}
@@ -34,7 +35,7 @@ abbrev pub stopped_at : ℕ → RunCause → ℕ → Outcome
 stopped_at c x q = outcome_at (Some (stop_fault x q)) c
 
 abbrev pub spent_of : ℕ → Fault
-spent_of a = record { layer = layer.Run AllowanceSpent; figure = a }
+spent_of a = fault_of (layer.Run AllowanceSpent) a
 
 abbrev pub too_dear : ℕ → Points → Told
 too_dear a p = (Err (spent_of a), p)

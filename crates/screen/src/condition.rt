@@ -1,6 +1,5 @@
 // Whether conditions hold, from rows. Both sides of a connective are worked out, left first.
-ghost use Rattle.std.specs.Prelude.{◌≡◌, ℕ, ◌+◌, ◌-◌, ◌^◌, ◌<◌, length, pos, slice_index_or};
-ghost use Rattle.arith.specs.Comparisons.{comparison_number, holds};
+ghost use Rattle.std.specs.Prelude.{◌≡◌, ℕ, ◌+◌, ◌-◌, ◌^◌, ◌<◌, length, slice_index_or};
 ghost use Rattle.arith.specs.declared.comparison.Comparison.{Comparison as Relation};
 ghost use Rattle.tables.specs.Trees.{Condition as ConditionTree, compare as compareOf, Sum as SumTree};
 ghost use Rattle.tables.specs.Rows.{blank};
@@ -10,7 +9,6 @@ ghost use Rattle.screen.specs.Works.{after, condition_work};
 
 use crate::halt::Stop;
 use crate::work::Work;
-use arith::Comparison;
 use tables::Kind;
 
 impl Work<'_> {
@@ -50,25 +48,12 @@ impl Work<'_> {
         let row = self.rows[end - 1];
         let (left, before) = self.sum(self.start_of(end - 1), points, spent)?;
         let (right, both) = self.sum(end - 1, points, before)?;
-        Ok((holds_by(row.value, left, right), both + 1))
+        let holds = row.comparison().unwrap().holds(left, right);
+        Ok((holds, both + 1))
     }
 }
 
-// The comparison by its number in a row.
-fn holds_by(number: i32, left: i32, right: i32) -> bool
-    ensures { (k : Relation) → number ≡ pos (comparison_number k) → result ≡ holds k left right }
-{
-    let comparison = match number {
-        0 => Comparison::Less,
-        1 => Comparison::LessOrEqual,
-        2 => Comparison::Greater,
-        3 => Comparison::GreaterOrEqual,
-        4 => Comparison::Equal,
-        _ => Comparison::NotEqual,
-    };
-    comparison.holds(left, right)
-}
-
+// The connective of a row that has one.
 fn connect(kind: Kind, left: bool, right: bool) -> bool
     ensures { result ≡ connected_at kind left right }
 {

@@ -55,7 +55,7 @@ fn settle(
             points.copy_from_slice(&before[0..points.len()]);
             match halt {
                 Halt::Stopped(stop) => Ok(Outcome {
-                    stop: Some(stop.fault()),
+                    stop: Some(Fault::from(stop)),
                     cost: stop.spent as u32,
                 }),
                 Halt::Spent => Err(too_dear(allowance)),
@@ -67,8 +67,5 @@ fn settle(
 fn too_dear(allowance: u32) -> Fault
     ensures { result ≡ spent_of allowance }
 {
-    Fault {
-        layer: Layer::Run(RunCause::AllowanceSpent),
-        figure: u64::from(allowance),
-    }
+    Fault::new(Layer::Run(RunCause::AllowanceSpent), allowance as usize)
 }

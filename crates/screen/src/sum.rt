@@ -63,13 +63,9 @@ fn apply(
     }
 }
 
+// A sum's row that is neither a number nor a name has an operator.
 fn operator_of(kind: Kind) -> Operator
     ensures { result ≡ operator_at kind }
 {
-    match kind {
-        Kind::Add => Operator::Add,
-        Kind::Sub => Operator::Sub,
-        Kind::Mul => Operator::Mul,
-        _ => Operator::Div,
-    }
+    kind.operator().unwrap_or(Operator::Div)
 }

@@ -1,13 +1,14 @@
-use Rattle.std.proofs.Common.{◌≡◌, ◌-◌, length, get_or, ap, ◌∙◌, arith, w32, to_z, of_z, rules}
+use Rattle.std.proofs.Common.{◌≡◌, ◌-◌, length, get_or, pos, is_some, Some, sym, ap, ◌∙◌, arith, w32, to_z, of_z, rules}
 use Rattle.std.proofs.lemmas.Result.{err_from_is_err_and}
-use Rattle.arith.specs.Comparisons.{holds}
+use Rattle.arith.specs.Comparisons.{comparison_number, holds}
 use Rattle.tables.specs.declared.row.Row.{Row}
 use Rattle.tables.specs.Rows.{blank}
+use Rattle.tables.specs.Kinds.{comparison_in}
 use Rattle.screen.specs.Works.{done, sum_work}
 use Rattle.screen.specs.Parts.{SumAt}
 use Rattle.screen.proofs.Costs.{then-stop, two-done, two-stop, spent-sum}
 use Rattle.screen.proofs.Parting.{moved, sum-size}
-use Rattle.screen.proofs.Conditions.{condition-end, compare-sides}
+use Rattle.screen.proofs.Conditions.{condition-end, compare-sides, names}
 use Rattle.screen.proofs.work.Work.compare.Goals as goal
 
 pub overflow_sub-row : goal.overflow_sub-row
@@ -77,13 +78,20 @@ overflow_add-result c =
     let small = c.requires.small in
     search rules
 
+pub unwrap-requires : goal.unwrap-requires
+unwrap-requires c =
+    let T = c.requires.tree in
+    let value : (get_or c.args.self.rows.now (c.args.end - 1) blank).value ≡ pos (comparison_number T.1) = ap (λ (x : Row). x.value) (compare-sides T.4).pair.own in
+    ap is_some (c.comparison.ensures ∙ ap comparison_in value ∙ names T.1)
+
 pub returns : goal.returns
 returns c q k l r at =
     let p = c.args.points.now in
     let S = compare-sides at in
     let la = moved (λ n. SumAt c.args.self.rows.now n (length p) l) c.start_of.ensures S.left in
-    let fv : to_z w32 (of_z w32 (get_or c.args.self.rows.now (c.args.end - 1) blank).value) ≡ (get_or c.args.self.rows.now (c.args.end - 1) blank).value = search rules in
     let fl : to_z w32 (of_z w32 c.in_ok-left.left) ≡ c.in_ok-left.left = search rules in
     let fr : to_z w32 (of_z w32 c.in_ok-right.right) ≡ c.in_ok-right.right = search rules in
-    let v = c.holds_by.ensures k (fv ∙ ap (λ (x : Row). x.value) S.pair.own) in
-    rw (v, fl, fr) (two-done c.args.spent c.in_ok-left.before c.in_ok-right.both c.in_ok-left.left c.in_ok-right.right (sum_work l p) (sum_work r p) (λ x y. done 1 (holds k x y)) (c.in_ok-left.ensures l la) (c.in_ok-right.ensures r S.right))
+    let value : (get_or c.args.self.rows.now (c.args.end - 1) blank).value ≡ pos (comparison_number k) = ap (λ (x : Row). x.value) S.pair.own in
+    let named : Some c.unwrap.result ≡ Some k = sym c.unwrap.ensures ∙ c.comparison.ensures ∙ ap comparison_in value ∙ names k in
+    let is : c.unwrap.result ≡ k = cc in
+    rw (c.holds-holds.ensures, fl, fr, is) (two-done c.args.spent c.in_ok-left.before c.in_ok-right.both c.in_ok-left.left c.in_ok-right.right (sum_work l p) (sum_work r p) (λ x y. done 1 (holds k x y)) (c.in_ok-left.ensures l la) (c.in_ok-right.ensures r S.right))
