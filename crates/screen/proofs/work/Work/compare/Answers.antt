@@ -8,22 +8,14 @@ use Rattle.screen.specs.Works.{done, sum_work}
 use Rattle.screen.specs.Parts.{SumAt}
 use Rattle.screen.proofs.Costs.{then-stop, two-done, two-stop, spent-sum}
 use Rattle.screen.proofs.Parting.{moved, sum-size}
-use Rattle.screen.proofs.Conditions.{condition-end, compare-sides, names}
+use Rattle.screen.proofs.Conditions.{compare-sides, names}
 use Rattle.screen.proofs.work.Work.compare.Goals as goal
 
-pub overflow_sub-row : goal.overflow_sub-row
-overflow_sub-row c = (condition-end c.requires.tree.4).0
+pub start_of-requires-clause-some : goal.start_of-requires-clause-some
+start_of-requires-clause-some c = (compare-sides c.requires.tree.4).pair.last_some
 
-pub bounds-self-end : goal.bounds-self-end
-bounds-self-end c = let e = condition-end c.requires.tree.4 in omega (arith, e.0, e.1)
-
-pub overflow_sub-end : goal.overflow_sub-end
-overflow_sub-end c = (condition-end c.requires.tree.4).0
-
-pub start_of-requires : goal.start_of-requires
-start_of-requires c =
-    let S = (compare-sides c.requires.tree.4).pair in
-    record { some = S.last_some; within = omega (arith, S.within); whole = S.room }
+pub start_of-requires-clause-whole : goal.start_of-requires-clause-whole
+start_of-requires-clause-whole c = (compare-sides c.requires.tree.4).pair.room
 
 pub sum-requires : goal.sum-requires
 sum-requires c =
@@ -42,9 +34,6 @@ returns-in_err-left c q k l r at =
     let la = moved (λ n. SumAt c.args.self.rows.now n (length p) l) c.start_of.ensures S.left in
     let E = err_from_is_err_and c.from_residual.result c.from_residual.ensures.1 in
     rw (E.1, E.2) (then-stop c.args.spent _ _ _ (sum_work l p) _ (c.in_err-left.ensures l la))
-
-pub overflow_sub-end-2 : goal.overflow_sub-end-2
-overflow_sub-end-2 c = (condition-end c.requires.tree.4).0
 
 pub sum-requires-2 : goal.sum-requires-2
 sum-requires-2 c =
