@@ -3,8 +3,9 @@ use crate::failure::Failure;
 use crate::input::Sheet;
 use crate::listing::name_of;
 use excerpts::line_at;
+use faults::Fault;
 use names::NameList;
-use screen::Answer;
+use screen::Outcome;
 
 // How many steps a sheet may cost where nobody says it.
 const ALLOWANCE: u32 = 1_000_000;
@@ -23,17 +24,18 @@ pub(crate) fn work_out(
     let mut after = before.as_slice().to_vec(rt.alloc())?;
     match screen::work_out(sheet.rows.as_slice(), after.as_mut_slice(), allowance) {
         Ok(outcome) => {
-            print_answer(rt, sheet.text.as_slice(), outcome.answer, outcome.cost)?;
+            print_answer(rt, sheet.text.as_slice(), outcome)?;
             print_points(rt, &names, before.as_slice(), after.as_slice())
         }
         Err(fault) => Err(Failure::new(rt, format_args!("{text}: {fault}"))),
     }
 }
 
-fn print_answer(rt: &HostRuntime, text: &[u8], answer: Answer, cost: u32) -> Result<(), Failure> {
-    match answer {
-        Answer::Ended => println!(rt; "ended, {cost} steps")?,
-        Answer::Stopped(fault) => {
+fn print_answer(rt: &HostRuntime, text: &[u8], outcome: Outcome) -> Result<(), Failure> {
+    let Outcome { stop, cost } = outcome;
+    match stop {
+        None => println!(rt; "ended, {cost} steps")?,
+        Some(fault) => {
             println!(rt; "stopped, {cost} steps")?;
             println!(rt; "{fault}")?;
             let line = line_at(text, usize::try_from(fault.figure).unwrap_or(0));

@@ -1,90 +1,48 @@
--- Where the parts of if, if-else, while and joint stand.
-use Rattle.std.proofs.Common.{◌≡◌, ℕ, suc, ◌+◌, ◌-◌, ◌<◌, ◌≤◌, List, [], ◌∷◌, ◌++◌, length, get_or, sym, refl, ap, subst, arith}
+-- Where the parts of if, if-else, while and joint stand, and which of them a sheet is by the kind of its last row.
+use Rattle.std.proofs.Common.{◌≡◌, ℕ, suc, ◌+◌, ◌-◌, ◌<◌, ◌≤◌, List, [], ◌∷◌, ◌++◌, length, get_or, sym, refl, ap, ◌∙◌, subst, arith}
 use Rattle.std.proofs.lemmas.List.{length-append}
 use Rattle.tables.specs.declared.kind.Kind.{Kind}
-use Rattle.tables.specs.declared.kind.Kind.TheVariants.{Set, If, IfElse, While, Joint}
+use Rattle.tables.specs.declared.kind.Kind.TheVariants.{Number, Name, Add, Sub, Mul, Div, Truth, Compare, Not, And, Or, Set, If, IfElse, While, Joint}
 use Rattle.tables.specs.declared.row.Row.{Row}
-use Rattle.tables.specs.declared.sort.Sort as sorts
 use Rattle.tables.specs.declared.sort.Sort.TheVariants as sort
 use Rattle.tables.specs.Trees.{Sum, Condition, Command, set, when, choose, while, Sheet, only, joint}
 use Rattle.tables.specs.Rows.{blank, condition_rows, sheet_rows, condition_size, sheet_size}
 use Rattle.tables.specs.Tables.{ConditionOver, SheetOver}
-use Rattle.tables.proofs.OfSort.{Of, rows_in, size_in, length-in, some-rows}
+use Rattle.tables.proofs.OfSort.{length-in, some-rows}
 use Rattle.screen.specs.Parts.{Before, ConditionAt, SheetAt}
-use Rattle.screen.proofs.Parting.{right-before, left-before, size_in_lem, end-in, one_in, two_in, kind-is}
-
--- a row with two parts, as the code finds them
-pub record Pair (a b : sorts.Sort) (R : List Row) (end : ℕ) (l : Of a) (r : Of b) (x : Row) : Type 0 where
-  pub own : get_or R (end - 1) blank ≡ x
-  pub some : 1 ≤ end
-  pub last_some : 1 ≤ end - 1
-  pub within : end ≤ length R
-  pub room : (get_or R (end - 1 - 1) blank).size ≤ end - 1
-  pub left : Before R (end - 1 - (get_or R (end - 1 - 1) blank).size) (rows_in a l)
-  pub right : Before R (end - 1) (rows_in b r)
-  pub left-size : (get_or R (end - 1 - (get_or R (end - 1 - 1) blank).size - 1) blank).size ≡ size_in a l
-  pub right-size : (get_or R (end - 1 - 1) blank).size ≡ size_in b r
-
-pub pair : (a b : sorts.Sort) (R : List Row) (end : ℕ) (l : Of a) (r : Of b) (x : Row) → Before R end (rows_in a l ++ (rows_in b r ++ x ∷ [])) → Pair a b R end l r x
-pair a b R end l r x before =
-    let T = two_in a b R end l r x before in
-    let rs = size_in_lem b R (end - 1) r T.right in
-    let two = T.two in
-    let room = T.room in
-    let lb = subst (λ (k : ℕ). Before R (end - 1 - k) (rows_in a l)) (sym rs) T.left in
-    record {
-      own = T.own;
-      some = omega arith;
-      last_some = omega arith;
-      within = before.within;
-      room = omega arith;
-      left = lb;
-      right = T.right;
-      left-size = size_in_lem a R (end - 1 - (get_or R (end - 1 - 1) blank).size) l lb;
-      right-size = rs;
-    }
+use Rattle.screen.proofs.Parting.{right-before, left-before, end-in, one_in, Pair, pair, kind-is}
 
 -- a condition and a body, under if or while
 pub record Testing (R : List Row) (end count : ℕ) (h : Condition) (b : Sheet) : Type 0 where
-  pub some : 1 ≤ end
-  pub body-some : 1 ≤ end - 1
-  pub within : end ≤ length R
-  pub room : (get_or R (end - 1 - 1) blank).size ≤ end - 1
+  pub top : Row
+  pub pair : Pair sort.Condition sort.Sheet R end h b top
   pub test : ConditionAt R (end - 1 - (get_or R (end - 1 - 1) blank).size) count h
   pub body : SheetAt R (end - 1) count b
-  pub body-falls : (get_or R (end - 1 - 1) blank).size < (get_or R (end - 1) blank).size
+  pub falls : (get_or R (end - 1 - 1) blank).size < (get_or R (end - 1) blank).size
 
-testing : (R : List Row) (end count : ℕ) (h : Condition) (b : Sheet) (x : Row) → x.size ≡ suc (condition_size h + sheet_size b) → Before R end (condition_rows h ++ (sheet_rows b ++ x ∷ [])) → ConditionAt R (end - 1 - (get_or R (end - 1 - 1) blank).size) count h → SheetAt R (end - 1) count b → Testing R end count h b
-testing R end count h b x n before t u =
+testing : (R : List Row) (end count : ℕ) (h : Condition) (b : Sheet) (x : Row) → x.size ≡ suc (condition_size h + sheet_size b) → Before R end (condition_rows h ++ (sheet_rows b ++ x ∷ [])) → ConditionOver count h → SheetOver count b → Testing R end count h b
+testing R end count h b x n before oh ob =
     let P = pair sort.Condition sort.Sheet R end h b x before in
     let own = ap (λ (y : Row). y.size) P.own in
     let rs = P.right-size in
     record {
-      some = P.some;
-      body-some = P.last_some;
-      within = P.within;
-      room = P.room;
-      test = t;
-      body = u;
-      body-falls = omega arith;
+      top = x;
+      pair = P;
+      test = record { stands = P.left; over = oh };
+      body = record { stands = P.right; over = ob };
+      falls = omega arith;
     }
 
 pub when-parts : {R : List Row} {end count q : ℕ} {h : Condition} {b : Sheet} → SheetAt R end count (only (when q h b)) → Testing R end count h b
-when-parts {R} {end} {count} {q} {h} {b} at =
-    let P = pair sort.Condition sort.Sheet R end h b _ at.stands in
-    testing R end count h b _ refl at.stands (record { stands = P.left; over = at.over.0 }) (record { stands = P.right; over = at.over.1 })
+when-parts {R} {end} {count} {q} {h} {b} at = testing R end count h b _ refl at.stands at.over.0 at.over.1
 
 pub while-parts : {R : List Row} {end count q : ℕ} {h : Condition} {b : Sheet} → SheetAt R end count (only (while q h b)) → Testing R end count h b
-while-parts {R} {end} {count} {q} {h} {b} at =
-    let P = pair sort.Condition sort.Sheet R end h b _ at.stands in
-    testing R end count h b _ refl at.stands (record { stands = P.left; over = at.over.0 }) (record { stands = P.right; over = at.over.1 })
+while-parts {R} {end} {count} {q} {h} {b} at = testing R end count h b _ refl at.stands at.over.0 at.over.1
 
 -- a command and the sheet after it
 pub record Joining (R : List Row) (end count : ℕ) (k : Command) (b : Sheet) : Type 0 where
-  pub some : 1 ≤ end
-  pub body-some : 1 ≤ end - 1
-  pub within : end ≤ length R
-  pub room : (get_or R (end - 1 - 1) blank).size ≤ end - 1
+  pub top : Row
+  pub pair : Pair sort.Sheet sort.Sheet R end (only k) b top
   pub first : SheetAt R (end - 1 - (get_or R (end - 1 - 1) blank).size) count (only k)
   pub rest : SheetAt R (end - 1) count b
   pub first-falls : (get_or R (end - 1 - (get_or R (end - 1 - 1) blank).size - 1) blank).size < (get_or R (end - 1) blank).size
@@ -97,29 +55,29 @@ joint-parts {R} {end} {count} {q} {k} {b} at =
     let ls = P.left-size in
     let rs = P.right-size in
     record {
-      some = P.some;
-      body-some = P.last_some;
-      within = P.within;
-      room = P.room;
+      top = _;
+      pair = P;
       first = record { stands = P.left; over = at.over.0 };
       rest = record { stands = P.right; over = at.over.1 };
       first-falls = omega arith;
       rest-falls = omega arith;
     }
 
+-- the first of two bodies, which ends at s, and the condition before it
+pub record First (R : List Row) (s count m : ℕ) (h : Condition) (b : Sheet) : Type 0 where
+  pub some : 1 ≤ s
+  pub room : (get_or R (s - 1) blank).size ≤ s
+  pub test : ConditionAt R (s - (get_or R (s - 1) blank).size) count h
+  pub body : SheetAt R s count b
+  pub falls : (get_or R (s - 1) blank).size < m
+
 -- a condition and two bodies
 pub record Choosing (R : List Row) (end count : ℕ) (h : Condition) (b d : Sheet) : Type 0 where
-  pub some : 1 ≤ end
-  pub body-some : 1 ≤ end - 1
-  pub within : end ≤ length R
-  pub room : (get_or R (end - 1 - 1) blank).size ≤ end - 1
-  pub second-some : 1 ≤ end - 1 - (get_or R (end - 1 - 1) blank).size
-  pub second-room : (get_or R (end - 1 - (get_or R (end - 1 - 1) blank).size - 1) blank).size ≤ end - 1 - (get_or R (end - 1 - 1) blank).size
-  pub test : ConditionAt R (end - 1 - (get_or R (end - 1 - 1) blank).size - (get_or R (end - 1 - (get_or R (end - 1 - 1) blank).size - 1) blank).size) count h
-  pub first : SheetAt R (end - 1 - (get_or R (end - 1 - 1) blank).size) count b
+  pub top : Row
+  pub pair : Pair sort.Sheet sort.Sheet R end b d top
+  pub first : First R (end - 1 - (get_or R (end - 1 - 1) blank).size) count (get_or R (end - 1) blank).size h b
   pub second : SheetAt R (end - 1) count d
-  pub first-falls : (get_or R (end - 1 - (get_or R (end - 1 - 1) blank).size - 1) blank).size < (get_or R (end - 1) blank).size
-  pub second-falls : (get_or R (end - 1 - 1) blank).size < (get_or R (end - 1) blank).size
+  pub falls : (get_or R (end - 1 - 1) blank).size < (get_or R (end - 1) blank).size
 
 choosing : (R : List Row) (end count : ℕ) (h : Condition) (b d : Sheet) (x : Row) → x.size ≡ suc (condition_size h + (sheet_size b + sheet_size d)) → Before R end (condition_rows h ++ (sheet_rows b ++ (sheet_rows d ++ x ∷ []))) → ConditionOver count h → SheetOver count b → SheetOver count d → Choosing R end count h b d
 choosing R end count h b d x n before oh ob od =
@@ -136,17 +94,18 @@ choosing R end count h b d x n before oh ob od =
     let L = length-append (sheet_rows b) (sheet_rows d ++ x ∷ []) in
     let L2 = length-append (sheet_rows d) (x ∷ []) in
     record {
-      some = P.some;
-      body-some = P.last_some;
-      within = P.within;
-      room = P.room;
-      second-some = omega arith;
-      second-room = omega arith;
-      test = record { stands = left-before R end (condition_rows h) (sheet_rows b ++ (sheet_rows d ++ x ∷ [])) before _ (omega arith); over = oh };
-      first = record { stands = P.left; over = ob };
+      top = x;
+      pair = P;
+      first =
+          record {
+            some = omega arith;
+            room = omega arith;
+            test = record { stands = left-before R end (condition_rows h) (sheet_rows b ++ (sheet_rows d ++ x ∷ [])) before _ (omega arith); over = oh };
+            body = record { stands = P.left; over = ob };
+            falls = omega arith;
+          };
       second = record { stands = P.right; over = od };
-      first-falls = omega arith;
-      second-falls = omega arith;
+      falls = omega arith;
     }
 
 pub choose-parts : {R : List Row} {end count q : ℕ} {h : Condition} {b d : Sheet} → SheetAt R end count (only (choose q h b d)) → Choosing R end count h b d
@@ -155,7 +114,7 @@ choose-parts {R} {end} {count} {q} {h} {b} {d} at =
 
 -- which command a sheet is, by the kind of its last row
 
-abbrev pub kind_of : Sheet → Kind
+abbrev kind_of : Sheet → Kind
 kind_of (only (set q x e)) = Set
 kind_of (only (when q h b)) = If
 kind_of (only (choose q h b d)) = IfElse
@@ -165,79 +124,52 @@ kind_of (joint q k b) = Joint
 pub sheet-end : {R : List Row} {end count : ℕ} {t : Sheet} → SheetAt R end count t → (1 ≤ end) × (end ≤ length R)
 sheet-end {R} {end} {count} {t} at = end-in sort.Sheet R end t at.stands
 
-kind_at : (R : List Row) (end count : ℕ) (t : Sheet) → SheetAt R end count t → (get_or R (end - 1) blank).kind ≡ kind_of t
-kind_at R end count (only (set q x e)) at = kind-is (one_in sort.Sum R end e _ at.stands).own
-kind_at R end count (only (when q h b)) at = kind-is (two_in sort.Condition sort.Sheet R end h b _ at.stands).own
-kind_at R end count (only (choose q h b d)) at =
-    kind-is (two_in sort.Sheet sort.Sheet R end b d _ (right-before R end (condition_rows h) _ at.stands)).own
-kind_at R end count (only (while q h b)) at = kind-is (two_in sort.Condition sort.Sheet R end h b _ at.stands).own
-kind_at R end count (joint q k b) at = kind-is (two_in sort.Sheet sort.Sheet R end (only k) b _ at.stands).own
+top-kind : (R : List Row) (end count : ℕ) (t : Sheet) → SheetAt R end count t → (get_or R (end - 1) blank).kind ≡ kind_of t
+top-kind R end count (only (set q x e)) at = kind-is (one_in sort.Sum R end e _ at.stands).own
+top-kind R end count (only (when q h b)) at = kind-is (pair sort.Condition sort.Sheet R end h b _ at.stands).own
+top-kind R end count (only (choose q h b d)) at =
+    kind-is (pair sort.Sheet sort.Sheet R end b d _ (right-before R end (condition_rows h) _ at.stands)).own
+top-kind R end count (only (while q h b)) at = kind-is (pair sort.Condition sort.Sheet R end h b _ at.stands).own
+top-kind R end count (joint q k b) at = kind-is (pair sort.Sheet sort.Sheet R end (only k) b _ at.stands).own
 
-pub sheet-kind : {R : List Row} {end count : ℕ} {t : Sheet} → SheetAt R end count t → (get_or R (end - 1) blank).kind ≡ kind_of t
-sheet-kind {R} {end} {count} {t} at = kind_at R end count t at
+-- that P holds of each sheet with a last row of the kind
+abbrev pub Arm : Kind → (Sheet → Type 0) → Type 0
+Arm Number P = Unit {0}
+Arm Name P = Unit {0}
+Arm Add P = Unit {0}
+Arm Sub P = Unit {0}
+Arm Mul P = Unit {0}
+Arm Div P = Unit {0}
+Arm Truth P = Unit {0}
+Arm Compare P = Unit {0}
+Arm Not P = Unit {0}
+Arm And P = Unit {0}
+Arm Or P = Unit {0}
+Arm Set P = (q x : ℕ) (e : Sum) → P (only (set q x e))
+Arm If P = (q : ℕ) (h : Condition) (b : Sheet) → P (only (when q h b))
+Arm IfElse P = (q : ℕ) (h : Condition) (b d : Sheet) → P (only (choose q h b d))
+Arm While P = (q : ℕ) (h : Condition) (b : Sheet) → P (only (while q h b))
+Arm Joint P = (q : ℕ) (k : Command) (b : Sheet) → P (joint q k b)
 
-pub record IsSet (t : Sheet) : Type 0 where
-  pub place : ℕ
-  pub point : ℕ
-  pub sum : Sum
-  pub is : t ≡ only (set place point sum)
+arm-of : (P : Sheet → Type 0) (t : Sheet) → Arm (kind_of t) P → P t
+arm-of P (only (set q x e)) f = f q x e
+arm-of P (only (when q h b)) f = f q h b
+arm-of P (only (choose q h b d)) f = f q h b d
+arm-of P (only (while q h b)) f = f q h b
+arm-of P (joint q k b) f = f q k b
 
-pub is_set : (t : Sheet) → kind_of t ≡ Set → IsSet t
-is_set (only (set q x e)) k = record { place = q; point = x; sum = e; is = refl }
-is_set (only (when q h b)) k = let z : ◌≡◌ {A = ℕ} 0 1 = cc in absurd (omega arith)
-is_set (only (choose q h b d)) k = let z : ◌≡◌ {A = ℕ} 0 1 = cc in absurd (omega arith)
-is_set (only (while q h b)) k = let z : ◌≡◌ {A = ℕ} 0 1 = cc in absurd (omega arith)
-is_set (joint q k' b) k = let z : ◌≡◌ {A = ℕ} 0 1 = cc in absurd (omega arith)
+pub arm : {R : List Row} {end count : ℕ} {t : Sheet} {k : Kind} → SheetAt R end count t → (get_or R (end - 1) blank).kind ≡ k → (P : Sheet → Type 0) → Arm k P → P t
+arm {R} {end} {count} {t} at e P f = arm-of P t (subst (λ (k : Kind). Arm k P) (sym e ∙ top-kind R end count t at) f)
 
-pub record IsWhen (t : Sheet) : Type 0 where
-  pub place : ℕ
-  pub test : Condition
-  pub body : Sheet
-  pub is : t ≡ only (when place test body)
+-- a sheet that is no one command is a command and a sheet
+last-arm : (t : Sheet) → (kind_of t ≡ Set → ⊥) → (kind_of t ≡ If → ⊥) → (kind_of t ≡ IfElse → ⊥) → (kind_of t ≡ While → ⊥) → kind_of t ≡ Joint
+last-arm (only (set q x e)) s w c l = absurd (s refl)
+last-arm (only (when q h b)) s w c l = absurd (w refl)
+last-arm (only (choose q h b d)) s w c l = absurd (c refl)
+last-arm (only (while q h b)) s w c l = absurd (l refl)
+last-arm (joint q k b) s w c l = refl
 
-pub is-when : (t : Sheet) → kind_of t ≡ If → IsWhen t
-is-when (only (set q x e)) k = let z : ◌≡◌ {A = ℕ} 0 1 = cc in absurd (omega arith)
-is-when (only (when q h b)) k = record { place = q; test = h; body = b; is = refl }
-is-when (only (choose q h b d)) k = let z : ◌≡◌ {A = ℕ} 0 1 = cc in absurd (omega arith)
-is-when (only (while q h b)) k = let z : ◌≡◌ {A = ℕ} 0 1 = cc in absurd (omega arith)
-is-when (joint q k' b) k = let z : ◌≡◌ {A = ℕ} 0 1 = cc in absurd (omega arith)
-
-pub record IsChoose (t : Sheet) : Type 0 where
-  pub place : ℕ
-  pub test : Condition
-  pub first : Sheet
-  pub second : Sheet
-  pub is : t ≡ only (choose place test first second)
-
-pub is-choose : (t : Sheet) → kind_of t ≡ IfElse → IsChoose t
-is-choose (only (set q x e)) k = let z : ◌≡◌ {A = ℕ} 0 1 = cc in absurd (omega arith)
-is-choose (only (when q h b)) k = let z : ◌≡◌ {A = ℕ} 0 1 = cc in absurd (omega arith)
-is-choose (only (choose q h b d)) k = record { place = q; test = h; first = b; second = d; is = refl }
-is-choose (only (while q h b)) k = let z : ◌≡◌ {A = ℕ} 0 1 = cc in absurd (omega arith)
-is-choose (joint q k' b) k = let z : ◌≡◌ {A = ℕ} 0 1 = cc in absurd (omega arith)
-
-pub record IsWhile (t : Sheet) : Type 0 where
-  pub place : ℕ
-  pub test : Condition
-  pub body : Sheet
-  pub is : t ≡ only (while place test body)
-
-pub is-while : (t : Sheet) → kind_of t ≡ While → IsWhile t
-is-while (only (set q x e)) k = let z : ◌≡◌ {A = ℕ} 0 1 = cc in absurd (omega arith)
-is-while (only (when q h b)) k = let z : ◌≡◌ {A = ℕ} 0 1 = cc in absurd (omega arith)
-is-while (only (choose q h b d)) k = let z : ◌≡◌ {A = ℕ} 0 1 = cc in absurd (omega arith)
-is-while (only (while q h b)) k = record { place = q; test = h; body = b; is = refl }
-is-while (joint q k' b) k = let z : ◌≡◌ {A = ℕ} 0 1 = cc in absurd (omega arith)
-
-pub record IsJoint (t : Sheet) : Type 0 where
-  pub place : ℕ
-  pub command : Command
-  pub rest : Sheet
-  pub is : t ≡ joint place command rest
-
-pub is-joint : (t : Sheet) → (kind_of t ≡ Set → ⊥) → (kind_of t ≡ If → ⊥) → (kind_of t ≡ IfElse → ⊥) → (kind_of t ≡ While → ⊥) → IsJoint t
-is-joint (only (set q x e)) s w c l = absurd (s refl)
-is-joint (only (when q h b)) s w c l = absurd (w refl)
-is-joint (only (choose q h b d)) s w c l = absurd (c refl)
-is-joint (only (while q h b)) s w c l = absurd (l refl)
-is-joint (joint q k b) s w c l = record { place = q; command = k; rest = b; is = refl }
+pub joint-kind : {R : List Row} {end count : ℕ} {t : Sheet} → SheetAt R end count t → ((get_or R (end - 1) blank).kind ≡ Set → ⊥) → ((get_or R (end - 1) blank).kind ≡ If → ⊥) → ((get_or R (end - 1) blank).kind ≡ IfElse → ⊥) → ((get_or R (end - 1) blank).kind ≡ While → ⊥) → (get_or R (end - 1) blank).kind ≡ Joint
+joint-kind {R} {end} {count} {t} at s w c l =
+    let k = top-kind R end count t at in
+    k ∙ last-arm t (λ e. s (k ∙ e)) (λ e. w (k ∙ e)) (λ e. c (k ∙ e)) (λ e. l (k ∙ e))

@@ -10,13 +10,13 @@ use Rattle.screen.specs.Works.{Points, Out, done, stop, lost, after, then, step,
 use Rattle.screen.proofs.Modelling.{after-after}
 
 done-stop : {A : Type 0} {n m q : ℕ} {v : A} {x : RunCause} → ◌≡◌ {A = Out A} (done n v) (stop m x q) → ⊥
-done-stop e = let z : ◌≡◌ {A = ℕ} 0 1 = cc in omega arith
+done-stop e = cc
 
 done-lost : {A : Type 0} {n : ℕ} {v : A} → ◌≡◌ {A = Out A} (done n v) lost → ⊥
-done-lost e = let z : ◌≡◌ {A = ℕ} 0 1 = cc in omega arith
+done-lost e = cc
 
 stop-lost : {A : Type 0} {n q : ℕ} {x : RunCause} → ◌≡◌ {A = Out A} (stop n x q) lost → ⊥
-stop-lost e = let z : ◌≡◌ {A = ℕ} 0 1 = cc in omega arith
+stop-lost e = cc
 
 pub then-done : {A B : Type 0} (k n : ℕ) (v : A) (o : Out A) (f : A → Out B) → done n v ≡ after k o → after k (then o f) ≡ after n (f v)
 then-done k n v (done c w) f e =
@@ -34,6 +34,14 @@ then-stop k n x q (stop c y r) f e =
     let d : q ≡ r = cc in
     cc
 then-stop k n x q lost f e = absurd (stop-lost e)
+
+-- and the same of two things, one after the other
+
+pub two-done : {A B C : Type 0} (k n m : ℕ) (v : A) (x : B) (o : Out A) (w : Out B) (f : A → B → Out C) → done n v ≡ after k o → done m x ≡ after n w → after m (f v x) ≡ after k (then o (λ y. then w (f y)))
+two-done k n m v x o w f e g = sym (then-done k n v o (λ y. then w (f y)) e ∙ then-done n m x w (f v) g)
+
+pub two-stop : {A B C : Type 0} (k n m : ℕ) (v : A) (x : RunCause) (q : ℕ) (o : Out A) (w : Out B) (f : A → B → Out C) → done n v ≡ after k o → stop m x q ≡ after n w → stop m x q ≡ after k (then o (λ y. then w (f y)))
+two-stop k n m v x q o w f e g = then-stop n m x q w (f v) g ∙ sym (then-done k n v o (λ y. then w (f y)) e)
 
 -- a value has been had by its parts' values
 
@@ -126,8 +134,8 @@ gave (done c x) k n v e =
     let a : n ≡ k + c = cc in
     let b : x ≡ v = cc in
     record { steps = c; made = a; came = ap (done c) b }
-gave (stop c x q) k n v e = let z : ◌≡◌ {A = ℕ} 0 1 = cc in absurd (omega arith)
-gave lost k n v e = let z : ◌≡◌ {A = ℕ} 0 1 = cc in absurd (omega arith)
+gave (stop c x q) k n v e = absurd cc
+gave lost k n v e = absurd cc
 
 pub record Broke {A : Type 0} (w : Out A) (k n : ℕ) (x : RunCause) (q : ℕ) : Type 0 where
   pub steps : ℕ
@@ -135,10 +143,10 @@ pub record Broke {A : Type 0} (w : Out A) (k n : ℕ) (x : RunCause) (q : ℕ) :
   pub came : w ≡ stop steps x q
 
 pub broke : {A : Type 0} (w : Out A) (k n : ℕ) (x : RunCause) (q : ℕ) → stop n x q ≡ after k w → Broke w k n x q
-broke (done c v) k n x q e = let z : ◌≡◌ {A = ℕ} 0 1 = cc in absurd (omega arith)
+broke (done c v) k n x q e = absurd cc
 broke (stop c y r) k n x q e =
     let a : n ≡ k + c = cc in
     let b : y ≡ x = cc in
     let d : r ≡ q = cc in
     record { steps = c; made = a; came = ap (λ (z : RunCause). stop c z r) b ∙ ap (stop c x) d }
-broke lost k n x q e = let z : ◌≡◌ {A = ℕ} 0 1 = cc in absurd (omega arith)
+broke lost k n x q e = absurd cc

@@ -89,7 +89,7 @@ alternative q h t u p o = (alternative-to q h t u p o, λ f. alternative-from q 
 
 -- the loop
 
-three-afters : (c d : ℕ) (o : Out Points) → after (c + 1 + d + 1) o ≡ after (c + 1) (after d (after 1 o))
+pub three-afters : (c d : ℕ) (o : Out Points) → after (c + 1 + d + 1) o ≡ after (c + 1) (after d (after 1 o))
 three-afters c d o = sym (simp after-after (ap (λ n. after n o) (omega arith)))
 
 unfolding-to : (q : ℕ) (h : Condition) (t : Sheet) (p : Points) (o : Out Points) → Does (while q h t) p o → Tested (condition_work h p) (Round (while q h t) t p) (Untouched p) o

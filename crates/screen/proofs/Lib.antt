@@ -3,6 +3,7 @@ pub mod Equations
 pub mod Parting
 pub mod Costs
 pub mod Conditions
+pub mod Allowing
 pub mod Commands
 pub mod Bodies
 pub mod Running

@@ -3,18 +3,21 @@ use Rattle.std.proofs.Common.{◌≡◌, ℕ, suc, ◌+◌, ◌-◌, ◌<◌, �
 use Rattle.std.proofs.lemmas.List.{get_or_append_left, get_or-append-add, length-append}
 use Rattle.arith.specs.declared.operator.Operator.{Operator}
 use Rattle.arith.specs.declared.operator.Operator.TheVariants as operator
-use Rattle.tables.specs.declared.kind.Kind.TheVariants.{Number, Name, Compare}
+use Rattle.tables.specs.declared.kind.Kind.TheVariants.{Number, Name}
 use Rattle.tables.specs.declared.row.Row.{Row}
-use Rattle.tables.specs.declared.sort.Sort.TheVariants as sort
-use Rattle.arith.specs.declared.comparison.Comparison.{Comparison}
-use Rattle.arith.specs.Comparisons.{comparison_number}
-use Rattle.tables.specs.Trees.{Sum, number, name, work, compare}
-use Rattle.tables.specs.Rows.{blank, row, operator_kind, sum_rows, sum_size}
 use Rattle.tables.specs.declared.sort.Sort as sorts
+use Rattle.tables.specs.declared.sort.Sort.TheVariants as sort
+use Rattle.tables.specs.Trees.{Sum, number, name, work}
+use Rattle.tables.specs.Rows.{blank, row, operator_kind, sum_rows, sum_size}
+use Rattle.tables.specs.Tables.{SumOver}
 use Rattle.tables.proofs.OfSort.{Of, rows_in, size_in, length-in, top_in}
 use Rattle.screen.specs.Works.{done, sum_work}
 use Rattle.screen.specs.Values.{operator_at}
-use Rattle.screen.specs.Parts.{Before, SumAt, ConditionAt}
+use Rattle.screen.specs.Parts.{Before, SumAt}
+
+-- what holds of an end holds of the same end however it was come by
+pub moved : (P : ℕ → Type 0) {m n : ℕ} → n ≡ m → P m → P n
+moved P e h = subst P (sym e) h
 
 module _ (R : List Row) (end : ℕ) (xs ys : List Row) (b : Before R end (xs ++ ys)) where
   pub right-before : Before R end ys
@@ -74,65 +77,69 @@ one_in a R end l x b =
       left = left-before R end (rows_in a l) (x ∷ []) b (end - 1) refl;
     }
 
-pub record TwoIn (a b : sorts.Sort) (R : List Row) (end : ℕ) (l : Of a) (r : Of b) (x : Row) : Type 0 where
+-- a row with two parts, as the code finds them
+pub record Pair (a b : sorts.Sort) (R : List Row) (end : ℕ) (l : Of a) (r : Of b) (x : Row) : Type 0 where
   pub own : get_or R (end - 1) blank ≡ x
-  pub two : 2 ≤ end
-  pub last : (get_or R (end - 2) blank).size ≡ size_in b r
-  pub room : suc (size_in a l + size_in b r) ≤ end
-  pub left : Before R (end - 1 - size_in b r) (rows_in a l)
+  pub some : 1 ≤ end
+  pub last_some : 1 ≤ end - 1
+  pub within : end ≤ length R
+  pub room : (get_or R (end - 1 - 1) blank).size ≤ end - 1
+  pub left : Before R (end - 1 - (get_or R (end - 1 - 1) blank).size) (rows_in a l)
   pub right : Before R (end - 1) (rows_in b r)
+  pub left-size : (get_or R (end - 1 - (get_or R (end - 1 - 1) blank).size - 1) blank).size ≡ size_in a l
+  pub right-size : (get_or R (end - 1 - 1) blank).size ≡ size_in b r
 
-pub two_in : (a b : sorts.Sort) (R : List Row) (end : ℕ) (l : Of a) (r : Of b) (x : Row) → Before R end (rows_in a l ++ (rows_in b r ++ x ∷ [])) → TwoIn a b R end l r x
-two_in a b R end l r x before =
+pub pair : (a b : sorts.Sort) (R : List Row) (end : ℕ) (l : Of a) (r : Of b) (x : Row) → Before R end (rows_in a l ++ (rows_in b r ++ x ∷ [])) → Pair a b R end l r x
+pair a b R end l r x before =
     let more = right-before R end (rows_in a l) (rows_in b r ++ x ∷ []) before in
-    let own = right-before R end (rows_in b r) (x ∷ []) more in
     let rb = left-before R end (rows_in b r) (x ∷ []) more (end - 1) refl in
+    let rs = size_in_lem b R (end - 1) r rb in
     let n = length-append (rows_in b r) (x ∷ []) in
-    let nl = length-in a l in
     let nr = length-in b r in
-    let lb = left-before R end (rows_in a l) (rows_in b r ++ x ∷ []) before (end - 1 - size_in b r) (omega arith) in
+    let lb = left-before R end (rows_in a l) (rows_in b r ++ x ∷ []) before (end - 1 - (get_or R (end - 1 - 1) blank).size) (omega arith) in
     let k = end-in b R (end - 1) r rb in
-    let f = lb.fits in
-    let g = rb.fits in
-    let h = own.fits in
     let k0 = k.0 in
-    let at2 : end - 2 ≡ end - 1 - 1 = omega arith in
+    let g = rb.fits in
     record {
-      own = row_before R end x own;
-      two = omega arith;
-      last = ap (λ (j : ℕ). (get_or R j blank).size) at2 ∙ size_in_lem b R (end - 1) r rb;
+      own = row_before R end x (right-before R end (rows_in b r) (x ∷ []) more);
+      some = omega arith;
+      last_some = k0;
+      within = before.within;
       room = omega arith;
       left = lb;
       right = rb;
+      left-size = size_in_lem a R (end - 1 - (get_or R (end - 1 - 1) blank).size) l lb;
+      right-size = rs;
     }
 
--- the last row of a tree that stands there has the tree's size
-pub sum-size : (R : List Row) (end : ℕ) (t : Sum) → Before R end (sum_rows t) → (get_or R (end - 1) blank).size ≡ sum_size t
-sum-size R end t b = size_in_lem sort.Sum R end t b
-
-pub sum-end : (R : List Row) (end : ℕ) (t : Sum) → Before R end (sum_rows t) → (1 ≤ end) × (end ≤ length R)
-sum-end R end t b = end-in sort.Sum R end t b
-
--- a row of two sums, its own row and its parts
-pub record TwoSums (R : List Row) (end count : ℕ) (q : ℕ) (o : Operator) (l r : Sum) : Type 0 where
-  pub own : get_or R (end - 1) blank ≡ row (operator_kind o) (pos 0) (suc (sum_size l + sum_size r)) q
-  pub two : 2 ≤ end
-  pub last : (get_or R (end - 2) blank).size ≡ sum_size r
-  pub room : suc (sum_size l + sum_size r) ≤ end
-  pub left : SumAt R (end - 1 - sum_size r) count l
+-- a row with two sums
+pub record Sides (R : List Row) (end count : ℕ) (l r : Sum) (x : Row) : Type 0 where
+  pub pair : Pair sort.Sum sort.Sum R end l r x
+  pub left : SumAt R (end - 1 - (get_or R (end - 1 - 1) blank).size) count l
   pub right : SumAt R (end - 1) count r
 
-pub work-parts : (R : List Row) (end count : ℕ) (q : ℕ) (o : Operator) (l r : Sum) → SumAt R end count (work q o l r) → TwoSums R end count q o l r
-work-parts R end count q o l r at =
-    let T = two_in sort.Sum sort.Sum R end l r _ at.stands in
-    record {
-      own = T.own;
-      two = T.two;
-      last = T.last;
-      room = T.room;
-      left = record { stands = T.left; over = at.over.0 };
-      right = record { stands = T.right; over = at.over.1 };
-    }
+pub sides : (R : List Row) (end count : ℕ) (l r : Sum) (x : Row) → Before R end (sum_rows l ++ (sum_rows r ++ x ∷ [])) → SumOver count l → SumOver count r → Sides R end count l r x
+sides R end count l r x before ol or =
+    let P = pair sort.Sum sort.Sum R end l r x before in
+    record { pair = P; left = record { stands = P.left; over = ol }; right = record { stands = P.right; over = or } }
+
+pub sum-end : {R : List Row} {end count : ℕ} {t : Sum} → SumAt R end count t → (1 ≤ end) × (end ≤ length R)
+sum-end {R} {end} {count} {t} at = end-in sort.Sum R end t at.stands
+
+pub sum-size : {R : List Row} {end count : ℕ} {t : Sum} → SumAt R end count t → (get_or R (end - 1) blank).size ≡ sum_size t
+sum-size {R} {end} {count} {t} at = size_in_lem sort.Sum R end t at.stands
+
+pub kind-is : {x y : Row} → x ≡ y → x.kind ≡ y.kind
+kind-is e = ap (λ (r : Row). r.kind) e
+
+number-row : (R : List Row) (end count q : ℕ) (v : ℤ) → SumAt R end count (number q v) → get_or R (end - 1) blank ≡ row Number v 1 q
+number-row R end count q v at = row_before R end (row Number v 1 q) at.stands
+
+name-row : (R : List Row) (end count q p : ℕ) → SumAt R end count (name q p) → get_or R (end - 1) blank ≡ row Name (pos p) 1 q
+name-row R end count q p at = row_before R end (row Name (pos p) 1 q) at.stands
+
+work-sides : (R : List Row) (end count q : ℕ) (o : Operator) (l r : Sum) → SumAt R end count (work q o l r) → Sides R end count l r (row (operator_kind o) (pos 0) (suc (sum_size l + sum_size r)) q)
+work-sides R end count q o l r at = sides R end count l r _ at.stands at.over.0 at.over.1
 
 -- a sum whose last row is neither a number nor a name has two parts
 pub record Parted (R : List Row) (end count : ℕ) (t : Sum) : Type 0 where
@@ -141,48 +148,36 @@ pub record Parted (R : List Row) (end count : ℕ) (t : Sum) : Type 0 where
   pub l : Sum
   pub r : Sum
   pub is : t ≡ work place op l r
-  pub two : TwoSums R end count place op l r
-
-number-row : (R : List Row) (end count q : ℕ) (v : ℤ) → SumAt R end count (number q v) → get_or R (end - 1) blank ≡ row Number v 1 q
-number-row R end count q v at = row_before R end (row Number v 1 q) at.stands
-
-name-row : (R : List Row) (end count q p : ℕ) → SumAt R end count (name q p) → get_or R (end - 1) blank ≡ row Name (pos p) 1 q
-name-row R end count q p at = row_before R end (row Name (pos p) 1 q) at.stands
+  pub sides : Sides R end count l r (row (operator_kind op) (pos 0) (suc (sum_size l + sum_size r)) place)
 
 parted-at : (R : List Row) (end count : ℕ) (t : Sum) → SumAt R end count t → ((get_or R (end - 1) blank).kind ≡ Number → ⊥) → ((get_or R (end - 1) blank).kind ≡ Name → ⊥) → Parted R end count t
-parted-at R end count (number q v) at m n = absurd (m (ap (λ (x : Row). x.kind) (number-row R end count q v at)))
-parted-at R end count (name q p) at m n = absurd (n (ap (λ (x : Row). x.kind) (name-row R end count q p at)))
+parted-at R end count (number q v) at m n = absurd (m (kind-is (number-row R end count q v at)))
+parted-at R end count (name q p) at m n = absurd (n (kind-is (name-row R end count q p at)))
 parted-at R end count (work q o l r) at m n =
-    record { place = q; op = o; l = l; r = r; is = refl; two = work-parts R end count q o l r at }
+    record { place = q; op = o; l = l; r = r; is = refl; sides = work-sides R end count q o l r at }
 
 pub parted : {R : List Row} {end count : ℕ} {t : Sum} → SumAt R end count t → ((get_or R (end - 1) blank).kind ≡ Number → ⊥) → ((get_or R (end - 1) blank).kind ≡ Name → ⊥) → Parted R end count t
 parted {R} {end} {count} {t} at m n = parted-at R end count t at m n
 
 operator-number : (o : Operator) → operator_kind o ≡ Number → ⊥
-operator-number operator.Add e = let z : ◌≡◌ {A = ℕ} 0 1 = cc in omega arith
-operator-number operator.Sub e = let z : ◌≡◌ {A = ℕ} 0 1 = cc in omega arith
-operator-number operator.Mul e = let z : ◌≡◌ {A = ℕ} 0 1 = cc in omega arith
-operator-number operator.Div e = let z : ◌≡◌ {A = ℕ} 0 1 = cc in omega arith
+operator-number operator.Add e = cc
+operator-number operator.Sub e = cc
+operator-number operator.Mul e = cc
+operator-number operator.Div e = cc
 
 operator-name : (o : Operator) → operator_kind o ≡ Name → ⊥
-operator-name operator.Add e = let z : ◌≡◌ {A = ℕ} 0 1 = cc in omega arith
-operator-name operator.Sub e = let z : ◌≡◌ {A = ℕ} 0 1 = cc in omega arith
-operator-name operator.Mul e = let z : ◌≡◌ {A = ℕ} 0 1 = cc in omega arith
-operator-name operator.Div e = let z : ◌≡◌ {A = ℕ} 0 1 = cc in omega arith
-
-name-number : Name ≡ Number → ⊥
-name-number e = let z : ◌≡◌ {A = ℕ} 0 1 = cc in omega arith
-
-pub kind-is : {x y : Row} → x ≡ y → x.kind ≡ y.kind
-kind-is e = ap (λ (r : Row). r.kind) e
+operator-name operator.Add e = cc
+operator-name operator.Sub e = cc
+operator-name operator.Mul e = cc
+operator-name operator.Div e = cc
 
 -- a number's row, and a name's
 
 pub number-work : (R : List Row) (end count : ℕ) (p : List ℤ) (t : Sum) → SumAt R end count t → (get_or R (end - 1) blank).kind ≡ Number → sum_work t p ≡ done 1 (get_or R (end - 1) blank).value
 number-work R end count p (number q v) at k = ap (λ (x : Row). done 1 x.value) (sym (number-row R end count q v at))
-number-work R end count p (name q x) at k = absurd (name-number (sym (kind-is (name-row R end count q x at)) ∙ k))
+number-work R end count p (name q x) at k = let r = kind-is (name-row R end count q x at) in cc
 number-work R end count p (work q o l r) at k =
-    absurd (operator-number o (sym (kind-is (work-parts R end count q o l r at).own) ∙ k))
+    absurd (operator-number o (sym (kind-is (work-sides R end count q o l r at).pair.own) ∙ k))
 
 pub record Named (R : List Row) (end count : ℕ) (p : List ℤ) (t : Sum) : Type 0 where
   pub point : ℕ
@@ -191,11 +186,11 @@ pub record Named (R : List Row) (end count : ℕ) (p : List ℤ) (t : Sum) : Typ
   pub work : sum_work t p ≡ done 1 (get_or p point (pos 0))
 
 pub named : (R : List Row) (end count : ℕ) (p : List ℤ) (t : Sum) → SumAt R end count t → (get_or R (end - 1) blank).kind ≡ Name → Named R end count p t
-named R end count p (number q v) at k = absurd (name-number (sym k ∙ kind-is (number-row R end count q v at)))
+named R end count p (number q v) at k = let r = kind-is (number-row R end count q v at) in absurd cc
 named R end count p (name q x) at k =
     record { point = x; value = ap (λ (y : Row). y.value) (name-row R end count q x at); below = at.over; work = refl }
 named R end count p (work q o l r) at k =
-    absurd (operator-name o (sym (kind-is (work-parts R end count q o l r at).own) ∙ k))
+    absurd (operator-name o (sym (kind-is (work-sides R end count q o l r at).pair.own) ∙ k))
 
 -- the operator of a row is its tree's
 pub operator-is : (o : Operator) → operator_at (operator_kind o) ≡ o
@@ -203,31 +198,3 @@ operator-is operator.Add = refl
 operator-is operator.Sub = refl
 operator-is operator.Mul = refl
 operator-is operator.Div = refl
-
--- a comparison and its two sums
-pub record Compared (R : List Row) (end count q : ℕ) (k : Comparison) (l r : Sum) : Type 0 where
-  pub own : get_or R (end - 1) blank ≡ row Compare (pos (comparison_number k)) (suc (sum_size l + sum_size r)) q
-  pub two : 2 ≤ end
-  pub within : end ≤ length R
-  pub last : (get_or R (end - 2) blank).size ≡ sum_size r
-  pub room : suc (sum_size l + sum_size r) ≤ end
-  pub left : SumAt R (end - 1 - (get_or R (end - 2) blank).size) count l
-  pub right : SumAt R (end - 1) count r
-  pub left-size : (get_or R (end - 1 - (get_or R (end - 2) blank).size - 1) blank).size ≡ sum_size l
-  pub right-size : (get_or R (end - 1 - 1) blank).size ≡ sum_size r
-
-pub compared : {R : List Row} {end count q : ℕ} {k : Comparison} {l r : Sum} → ConditionAt R end count (compare q k l r) → Compared R end count q k l r
-compared {R} {end} {count} {q} {k} {l} {r} at =
-    let T = two_in sort.Sum sort.Sum R end l r _ at.stands in
-    let lb = subst (λ (m : ℕ). Before R (end - 1 - m) (sum_rows l)) (sym T.last) T.left in
-    record {
-      own = T.own;
-      two = T.two;
-      within = at.stands.within;
-      last = T.last;
-      room = T.room;
-      left = record { stands = lb; over = at.over.0 };
-      right = record { stands = T.right; over = at.over.1 };
-      left-size = size_in_lem sort.Sum R (end - 1 - (get_or R (end - 2) blank).size) l lb;
-      right-size = size_in_lem sort.Sum R (end - 1) r T.right;
-    }

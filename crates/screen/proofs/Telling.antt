@@ -1,6 +1,5 @@
 -- What is told is what the state model says, and its laws.
-use Rattle.std.proofs.Common.{◌≡◌, ℕ, suc, ◌+◌, ◌-◌, ◌<◌, ◌≤◌, Bool, true, false, cond, leb, List, ◌++◌, length, get_or, take, ℤ, is_ok, Ok, Err, Option, Result, sym, refl, ap, ◌∙◌, subst, arith}
-use Rattle.std.proofs.lemmas.List.{take_at}
+use Rattle.std.proofs.Common.{◌≡◌, ℕ, suc, ◌+◌, ◌-◌, ◌<◌, ◌≤◌, Bool, true, false, cond, leb, List, length, get_or, take, is_ok, Ok, Err, Option, Result, sym, refl, ap, ◌∙◌, subst, arith}
 use Rattle.std.proofs.lemmas.Bool.{leb-true, le-leb, lt-leb}
 use Rattle.faults.specs.declared.causes.RunCause.{RunCause}
 use Rattle.faults.specs.declared.fault.Fault.{Fault}
@@ -13,8 +12,8 @@ use Rattle.tables.proofs.Standing.{accepts-table}
 use Rattle.tables.proofs.Growing.{only-tables}
 use Rattle.tables.proofs.TableLaws.{accepts}
 use Rattle.screen.specs.declared.answer.Outcome.{Outcome}
-use Rattle.screen.specs.declared.value.Run.{Run}
-use Rattle.screen.specs.declared.value.Run.TheVariants.{Ended, Stopped, Spent}
+use Rattle.screen.specs.declared.halt.Halt.{Halt}
+use Rattle.screen.specs.declared.halt.Halt.TheVariants.{Stopped, Spent}
 use Rattle.screen.specs.Works.{Points, Out, done, stop, lost, cost}
 use Rattle.screen.specs.Model.{Ends}
 use Rattle.screen.specs.Rounds.{rounds}
@@ -26,10 +25,6 @@ use Rattle.screen.specs.Laws.{TableOf, Tells, Answers}
 use Rattle.screen.proofs.Modelling.{Known, known, complete, sound, unique}
 use Rattle.screen.specs.Behind.{tree_of}
 use Rattle.screen.proofs.Behind.{tree-of}
-
--- a copy's front
-pub front : (X P W : List ℤ) → X ≡ P → take (length P) (X ++ W) ≡ P
-front X P W e = rw e (take_at P W _ refl)
 
 -- the whole table, at its end
 pub whole-at : (rows : List Row) (count : ℕ) (t : Sheet) → sheet_rows t ≡ rows → SheetOver count t → SheetAt rows (length rows) count t
@@ -47,10 +42,10 @@ whole-at rows count t e over =
       over = over;
     }
 
-pub within-run : (p : Points) (t : Sheet) (k a : ℕ) (run : Run) (p' : Points) → Ran p t k a run p' → Within run a
-within-run p t k a (Ended n) p' r = r.2
-within-run p t k a (Stopped s) p' r = r.2
-within-run p t k a Spent p' r = tt
+pub within-run : (p : Points) (t : Sheet) (k a : ℕ) (run : Result ℕ Halt) (p' : Points) → Ran p t k a run p' → Within run a
+within-run p t k a (Ok n) p' r = r.2
+within-run p t k a (Err (Stopped s)) p' r = r.2
+within-run p t k a (Err Spent) p' r = tt
 
 -- told by cases
 
@@ -72,18 +67,18 @@ dear-at t p a (done c v) e h = told-dear (done c v) p a (h (done c v) (subst (En
 dear-at t p a (stop c x q) e h = told-dear (stop c x q) p a (h (stop c x q) (subst (Ends t p) e (sound (suc a) t p (subst Known (sym e) tt))))
 dear-at t p a lost e h = refl
 
-pub ran-told : (t : Sheet) (p : Points) (a : ℕ) (run : Run) (p' : Points) → Ran p t 0 a run p' → settled run p' p a ≡ told (rounds (suc a) t p) p a
-ran-told t p a (Ended n) p' r =
+pub ran-told : (t : Sheet) (p : Points) (a : ℕ) (run : Result ℕ Halt) (p' : Points) → Ran p t 0 a run p' → settled run p' p a ≡ told (rounds (suc a) t p) p a
+ran-told t p a (Ok n) p' r =
     let i = r.1 in
     let m : r.0 ≡ n = omega arith in
     let le : r.0 ≤ a = omega (arith, r.2) in
     sym (ap (λ (o : Out Points). told o p a) (complete r.3 a le) ∙ told-done r.0 a p p' le ∙ ap (λ (k : ℕ). (Ok (ended_at k), p')) m)
-ran-told t p a (Stopped s) p' r =
+ran-told t p a (Err (Stopped s)) p' r =
     let i = r.1 in
     let m : r.0 ≡ s.spent = omega arith in
     let le : r.0 ≤ a = omega (arith, r.2) in
     sym (ap (λ (o : Out Points). told o p a) (complete r.3 a le) ∙ told-stop r.0 a s.cause s.place p le ∙ ap (λ (k : ℕ). (Ok (stopped_at k s.cause s.place), p)) m)
-ran-told t p a Spent p' r = sym (dear-at t p a (rounds (suc a) t p) refl (λ o e. omega (arith, r o e)))
+ran-told t p a (Err Spent) p' r = sym (dear-at t p a (rounds (suc a) t p) refl (λ o e. omega (arith, r o e)))
 
 -- the defined value of a table
 
@@ -100,10 +95,10 @@ table_of : (rows : List Row) (p : Points) (T : Table (length p) rows) → length
 table_of rows p T l = record { listed = T.listed; over = T.over; few = T.few; narrow = l }
 
 -- the run over the table, settled against the points from before
-pub run-told : (rows : List Row) (p p₁ b : Points) (a n : ℕ) (run : Run) (T : Table (length p) rows) → length p ≤ 64 → n ≡ a → length p₁ ≡ length p → take (length p) b ≡ p → Ran p T.tree 0 n run p₁ → settled run p₁ (take (length p₁) b) a ≡ worked_out rows p a
-run-told rows p p₁ b a n run T l e m f r =
+pub run-told : (rows : List Row) (p p₁ b : Points) (a : ℕ) (run : Result ℕ Halt) (T : Table (length p) rows) → length p ≤ 64 → length p₁ ≡ length p → take (length p) b ≡ p → Ran p T.tree 0 a run p₁ → settled run p₁ (take (length p₁) b) a ≡ worked_out rows p a
+run-told rows p p₁ b a run T l m f r =
     let g : take (length p₁) b ≡ p = ap (λ (k : ℕ). take k b) m ∙ f in
-    ap (λ (q : Points). settled run p₁ q a) g ∙ ran-told T.tree p a run p₁ (subst (λ (k : ℕ). Ran p T.tree 0 k run p₁) e r) ∙ sym (worked-table T.tree rows p a (table_of rows p T l))
+    ap (λ (q : Points). settled run p₁ q a) g ∙ ran-told T.tree p a run p₁ r ∙ sym (worked-table T.tree rows p a (table_of rows p T l))
 
 -- the laws
 
@@ -141,7 +136,7 @@ module _ (rows : List Row) (p : Points) (a : ℕ) (r : Result Outcome Fault) (p'
           let m = apart _ _ k in
           let y : x ≡ ended_at c = cc (e, m.0) in
           (t, T, done c v, subst (Ends t p) f (sound (suc a) t p (subst Known (sym f) tt)), leb-true c a l, (y, m.1))
-      earned-done false l k = let m = apart _ _ k in let z : ◌≡◌ {A = ℕ} 0 1 = cc (e, m.0) in absurd (omega arith)
+      earned-done false l k = let m = apart _ _ k in absurd (cc (e, m.0))
   earned-at x e t T (stop c y q) f k = earned-stop (leb c a) refl k
     where
       earned-stop : (b : Bool) → leb c a ≡ b → (r, p') ≡ cond b (Ok (stopped_at c y q), p) (too_dear a p) → (t : Sheet) × TableOf t rows p × (o : Out Points) × Ends t p o × (cost o ≤ a) × Tells o p x p'
@@ -149,22 +144,21 @@ module _ (rows : List Row) (p : Points) (a : ℕ) (r : Result Outcome Fault) (p'
           let m = apart _ _ k in
           let z : x ≡ stopped_at c y q = cc (e, m.0) in
           (t, T, stop c y q, subst (Ends t p) f (sound (suc a) t p (subst Known (sym f) tt)), leb-true c a l, (z, m.1))
-      earned-stop false l k = let m = apart _ _ k in let z : ◌≡◌ {A = ℕ} 0 1 = cc (e, m.0) in absurd (omega arith)
-  earned-at x e t T lost f k = let m = apart _ _ k in let z : ◌≡◌ {A = ℕ} 0 1 = cc (e, m.0) in absurd (omega arith)
+      earned-stop false l k = let m = apart _ _ k in absurd (cc (e, m.0))
+  earned-at x e t T lost f k = let m = apart _ _ k in absurd (cc (e, m.0))
 
   law-earned : (x : Outcome) → r ≡ Ok x → (t : Sheet) × TableOf t rows p × (o : Out Points) × Ends t p o × (cost o ≤ a) × Tells o p x p'
   law-earned x e = go (table_checked (length p) rows) refl
     where
       go : (k : Result (List Row) Fault) → table_checked (length p) rows ≡ k → (t : Sheet) × TableOf t rows p × (o : Out Points) × Ends t p o × (cost o ≤ a) × Tells o p x p'
       go (Ok rows') f =
-          let A = (accepts (length p) rows).only (ap is_ok f) in
+          let A = (accepts (length p) rows _ refl).only (ap is_ok f) in
           let T = A.0 in
           let of = table_of rows p T A.1 in
           earned-at x e T.tree of (rounds (suc a) T.tree p) refl (to-told T.tree of)
       go (Err y) f =
           let m = apart (Err y) p (value ∙ ap (λ (k : Result (List Row) Fault). on_checked k p a) f) in
-          let z : ◌≡◌ {A = ℕ} 0 1 = cc (e, m.0) in
-          absurd (omega arith)
+          absurd (cc (e, m.0))
 
   -- a refusal leaves the points
 
@@ -172,7 +166,7 @@ module _ (rows : List Row) (p : Points) (a : ℕ) (r : Result Outcome Fault) (p'
   kept_at f e (done c v) k = kept-done (leb c a) k
     where
       kept-done : (b : Bool) → (r, p') ≡ cond b (Ok (ended_at c), v) (too_dear a p) → p' ≡ p
-      kept-done true k = let m = apart _ _ k in let z : ◌≡◌ {A = ℕ} 0 1 = cc (e, m.0) in absurd (omega arith)
+      kept-done true k = let m = apart _ _ k in absurd (cc (e, m.0))
       kept-done false k = (apart _ _ k).1
   kept_at f e (stop c y q) k = kept-stop (leb c a) k
     where

@@ -10,5 +10,6 @@ pub mod Parts
 pub mod Values
 pub mod Judging
 pub mod OneMore
+pub mod Allowing
 pub mod Runs
 pub mod Within

@@ -7,14 +7,13 @@ use Rattle.faults.specs.declared.causes.Layer.TheVariants as layer
 use Rattle.faults.specs.declared.causes.RunCause.{RunCause}
 use Rattle.faults.specs.declared.causes.RunCause.TheVariants.{AllowanceSpent}
 use Rattle.faults.specs.declared.fault.Fault.{Fault}
+use Rattle.faults.specs.Numbers.{fault_of}
 use Rattle.tables.specs.declared.row.Row.{Row}
 use Rattle.tables.specs.Trees.{Sheet}
 use Rattle.tables.specs.Checks.{table_checked}
-use Rattle.screen.specs.declared.answer.Answer.{Answer}
-use Rattle.screen.specs.declared.answer.Answer.TheVariants as answer
 use Rattle.screen.specs.declared.answer.Outcome.{Outcome}
-use Rattle.screen.specs.declared.value.Run.{Run}
-use Rattle.screen.specs.declared.value.Run.TheVariants.{Ended, Stopped, Spent}
+use Rattle.screen.specs.declared.halt.Halt.{Halt}
+use Rattle.screen.specs.declared.halt.Halt.TheVariants.{Stopped, Spent}
 use Rattle.screen.specs.Works.{Points, Out, done, stop, lost}
 use Rattle.screen.specs.Rounds.{rounds}
 use Rattle.screen.specs.Stopping.{stop_fault}
@@ -24,19 +23,19 @@ use Rattle.screen.specs.Behind.{tree_of}
 abbrev pub Told : Type 0
 Told = Result Outcome Fault × Points
 
-abbrev pub outcome_at : Answer → ℕ → Outcome
-outcome_at x c = record { answer = x; cost = c }
+abbrev pub outcome_at : Option Fault → ℕ → Outcome
+outcome_at x c = record { stop = x; cost = c }
 
 -- "ended", at its cost
 abbrev pub ended_at : ℕ → Outcome
-ended_at c = outcome_at answer.Ended c
+ended_at c = outcome_at None c
 
 -- a stop in the run layer, with its place, at its cost
 abbrev pub stopped_at : ℕ → RunCause → ℕ → Outcome
-stopped_at c x q = outcome_at (answer.Stopped (stop_fault x q)) c
+stopped_at c x q = outcome_at (Some (stop_fault x q)) c
 
 abbrev pub spent_of : ℕ → Fault
-spent_of a = record { layer = layer.Run AllowanceSpent; figure = a }
+spent_of a = fault_of (layer.Run AllowanceSpent) a
 
 abbrev pub too_dear : ℕ → Points → Told
 too_dear a p = (Err (spent_of a), p)
@@ -59,7 +58,7 @@ abbrev pub worked_out : List Row → Points → ℕ → Told
 worked_out rows p a = on_checked (table_checked (length p) rows) p a
 
 -- how far a run came, the points where it is and the points before it
-abbrev pub settled : Run → Points → Points → ℕ → Told
-settled (Ended n) p' p a = (Ok (ended_at n), p')
-settled (Stopped s) p' p a = (Ok (stopped_at s.spent s.cause s.place), p)
-settled Spent p' p a = too_dear a p
+abbrev pub settled : Result ℕ Halt → Points → Points → ℕ → Told
+settled (Ok n) p' p a = (Ok (ended_at n), p')
+settled (Err (Stopped s)) p' p a = (Ok (stopped_at s.spent s.cause s.place), p)
+settled (Err Spent) p' p a = too_dear a p

@@ -1,9 +1,9 @@
 -- A run that came to its end made no more steps than were allowed.
-use Rattle.std.specs.Prelude.{ℕ, ◌≤◌}
-use Rattle.screen.specs.declared.value.Run.{Run}
-use Rattle.screen.specs.declared.value.Run.TheVariants.{Ended, Stopped, Spent}
+use Rattle.std.specs.Prelude.{ℕ, ◌≤◌, Ok, Err, Result}
+use Rattle.screen.specs.declared.halt.Halt.{Halt}
+use Rattle.screen.specs.declared.halt.Halt.TheVariants.{Stopped, Spent}
 
-abbrev pub Within : Run → ℕ → Type 0
-Within (Ended n) a = n ≤ a
-Within (Stopped s) a = s.spent ≤ a
-Within Spent a = Unit {0}
+abbrev pub Within : Result ℕ Halt → ℕ → Type 0
+Within (Ok n) a = n ≤ a
+Within (Err (Stopped s)) a = s.spent ≤ a
+Within (Err Spent) a = Unit {0}

@@ -1,16 +1,10 @@
 // What a sheet comes to.
 use faults::Fault;
 
-// It ended, or it stopped for the cause and at the place that the fault tells: the same record that a refusal is.
-#[derive(Clone, Copy, PartialEq, Eq, Debug)]
-pub enum Answer {
-    Ended,
-    Stopped(Fault),
-}
-
-// The answer and the steps it took, a stopping one counted.
+// The fault for which it stopped, if it did not end: the same record that a refusal is. And the steps it took, a
+// stopping one counted.
 #[derive(Clone, Copy, PartialEq, Eq, Debug)]
 pub struct Outcome {
-    pub answer: Answer,
+    pub stop: Option<Fault>,
     pub cost: u32,
 }

@@ -1,41 +1,24 @@
 // The command that sets a point.
-ghost use Rattle.std.specs.Prelude.{ℕ, ◌^◌, ◌<◌, ◌≤◌, length};
+ghost use Rattle.std.specs.Prelude.{ℕ, length};
 ghost use Rattle.tables.specs.Trees.{Sum as SumTree, set as setOf, only};
 ghost use Rattle.screen.specs.Parts.{SheetAt};
 ghost use Rattle.screen.specs.Runs.{Ran};
 
-use crate::sum::sum;
-use crate::value::Run;
-use tables::Row;
+use crate::halt::Halt;
+use crate::work::Work;
 
-pub(crate) fn assign(
-    rows: &[Row],
-    end: usize,
-    points: &mut [i32],
-    spent: u64,
-    allowance: u64,
-) -> Run
-    requires tree { (q : ℕ) × (x : ℕ) × (e : SumTree) × SheetAt rows.now end (length points.old) (only (setOf q x e)) }
-    requires few { length rows.now ≤ 2048 }
-    requires small { spent < 2 ^ 47 }
-    ensures { (q x : ℕ) (e : SumTree) → SheetAt rows.now end (length points.old) (only (setOf q x e)) → Ran points.old (only (setOf q x e)) spent allowance result points.new }
-{
-    match sum(rows, end - 1, points, spent) {
-        Err(stop) => {
-            if stop.spent > allowance {
-                Run::Spent
-            } else {
-                Run::Stopped(stop)
+impl Work<'_> {
+    pub(crate) fn assign(self, end: usize, points: &mut [i32], before: u32) -> Result<u32, Halt>
+        requires { (q : ℕ) × (x : ℕ) × (e : SumTree) × SheetAt self.rows.now end (length points.old) (only (setOf q x e)) }
+        ensures { (q x : ℕ) (e : SumTree) → SheetAt self.entry.rows.now end (length points.old) (only (setOf q x e)) → Ran points.old (only (setOf q x e)) before self.entry.allowance result points.new }
+    {
+        match self.sum(end - 1, points, u64::from(before)) {
+            Ok((value, worked)) => {
+                let made = self.allow(worked + 2)?;
+                points[self.rows[end - 1].value as usize] = value;
+                Ok(made)
             }
-        }
-        Ok((value, before)) => {
-            if before + 2 > allowance {
-                Run::Spent
-            } else {
-                let point = rows[end - 1].value as usize;
-                points[point] = value;
-                Run::Ended(before + 2)
-            }
+            Err(stop) => Err(self.halt(stop)),
         }
     }
 }

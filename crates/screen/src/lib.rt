@@ -4,13 +4,14 @@
 mod answer;
 mod assign;
 mod condition;
+mod halt;
 mod judge;
 mod run;
 mod screening;
 mod sum;
-mod value;
+mod work;
 
-pub use answer::{Answer, Outcome};
+pub use answer::Outcome;
 pub use screening::work_out;
 
 #[cfg(test)]

@@ -1,13 +1,13 @@
 // The screen's one call.
-ghost use Rattle.std.specs.Prelude.{◌≡◌, ◌^◌, ◌<◌, ◌≤◌, length, take};
+ghost use Rattle.std.specs.Prelude.{◌≡◌, ◌≤◌, length, take};
 ghost use Rattle.screen.specs.Equations.{StateModel};
 ghost use Rattle.screen.specs.Laws.{Answers, StopsByNumber};
-ghost use Rattle.screen.specs.Screens.{worked_out, settled, outcome_at, spent_of};
+ghost use Rattle.screen.specs.Screens.{worked_out, settled, spent_of};
 ghost use Rattle.screen.specs.Within.{Within};
 
-use crate::answer::{Answer, Outcome};
-use crate::run::sheet;
-use crate::value::Run;
+use crate::answer::Outcome;
+use crate::halt::Halt;
+use crate::work::Work;
 use faults::{Fault, Layer, RunCause};
 use tables::{Row, Table};
 
@@ -21,12 +21,10 @@ pub fn work_out(rows: &[Row], points: &mut [i32], allowance: u32) -> Result<Outc
     ensures number { StopsByNumber }
     ensures equations { StateModel }
 {
-    match Table::check(rows, points.len()) {
-        Err(fault) => return Err(fault),
-        Ok(_) => {}
-    }
+    Table::check(rows, points.len())?;
     let before = copied(points);
-    let run = sheet(rows, rows.len(), points, 0, u64::from(allowance));
+    let work = Work { rows, allowance };
+    let run = work.sheet(rows.len(), points, 0);
     settle(run, points, &before, allowance)
 }
 
@@ -42,7 +40,7 @@ fn copied(points: &[i32]) -> [i32; MOST_POINTS]
 
 // The answer to a run, and the points before it again where it did not end.
 fn settle(
-    run: Run,
+    run: Result<u32, Halt>,
     points: &mut [i32],
     before: &[i32; MOST_POINTS],
     allowance: u32,
@@ -52,31 +50,22 @@ fn settle(
     ensures { (result, points.new) ≡ settled run points.old (take (length points.old) before.now) allowance }
 {
     match run {
-        Run::Ended(_) => {}
-        Run::Stopped(_) | Run::Spent => points.copy_from_slice(&before[0..points.len()]),
-    }
-    match run {
-        Run::Ended(cost) => Ok(outcome(Answer::Ended, cost)),
-        Run::Stopped(stop) => Ok(outcome(Answer::Stopped(stop.fault()), stop.spent)),
-        Run::Spent => Err(too_dear(allowance)),
-    }
-}
-
-fn outcome(answer: Answer, cost: u64) -> Outcome
-    requires { cost < 2 ^ 32 }
-    ensures { result ≡ outcome_at answer cost }
-{
-    Outcome {
-        answer,
-        cost: cost as u32,
+        Ok(cost) => Ok(Outcome { stop: None, cost }),
+        Err(halt) => {
+            points.copy_from_slice(&before[0..points.len()]);
+            match halt {
+                Halt::Stopped(stop) => Ok(Outcome {
+                    stop: Some(Fault::from(stop)),
+                    cost: stop.spent as u32,
+                }),
+                Halt::Spent => Err(too_dear(allowance)),
+            }
+        }
     }
 }
 
 fn too_dear(allowance: u32) -> Fault
     ensures { result ≡ spent_of allowance }
 {
-    Fault {
-        layer: Layer::Run(RunCause::AllowanceSpent),
-        figure: u64::from(allowance),
-    }
+    Fault::new(Layer::Run(RunCause::AllowanceSpent), allowance as usize)
 }

@@ -8,25 +8,27 @@ ghost use Rattle.screen.specs.Parts.{SumAt};
 ghost use Rattle.screen.specs.Values.{out_of, operator_at};
 ghost use Rattle.screen.specs.Works.{after, step as step_of, sum_work};
 
-use crate::value::Stop;
+use crate::halt::Stop;
+use crate::work::Work;
 use arith::Operator;
-use tables::{Kind, Row};
+use tables::Kind;
 
-// The value of the sum that ends at `end`, and the steps so far.
-pub(crate) fn sum(rows: &[Row], end: usize, points: &[i32], spent: u64) -> Result<(i32, u64), Stop>
-    requires tree { (t : SumTree) × SumAt rows.now end (length points.now) t }
-    requires small { spent + (get_or rows.now (end - 1) blank).size < 2 ^ 48 }
-    ensures { (t : SumTree) → SumAt rows.now end (length points.now) t → out_of result ≡ after spent (sum_work t points.now) }
-{
-    let row = rows[end - 1];
-    match row.kind {
-        Kind::Number => Ok((row.value, spent + 1)),
-        Kind::Name => Ok((read(points, row.value), spent + 1)),
-        _ => {
-            let middle = end - 1 - rows[end - 2].size as usize;
-            let (left, before) = sum(rows, middle, points, spent)?;
-            let (right, both) = sum(rows, end - 1, points, before)?;
-            apply(operator_of(row.kind), left, right, row.place, both)
+impl Work<'_> {
+    // The value of the sum that ends at `end`, and the steps so far.
+    pub(crate) fn sum(self, end: usize, points: &[i32], spent: u64) -> Result<(i32, u64), Stop>
+        requires tree { (t : SumTree) × SumAt self.rows.now end (length points.now) t }
+        requires small { spent + (get_or self.rows.now (end - 1) blank).size < 2 ^ 48 }
+        ensures { (t : SumTree) → SumAt self.entry.rows.now end (length points.now) t → out_of result ≡ after spent (sum_work t points.now) }
+    {
+        let row = self.rows[end - 1];
+        match row.kind {
+            Kind::Number => Ok((row.value, spent + 1)),
+            Kind::Name => Ok((read(points, row.value), spent + 1)),
+            _ => {
+                let (left, before) = self.sum(self.start_of(end - 1), points, spent)?;
+                let (right, both) = self.sum(end - 1, points, before)?;
+                apply(operator_of(row.kind), left, right, row.place, both)
+            }
         }
     }
 }
@@ -61,13 +63,9 @@ fn apply(
     }
 }
 
+// A sum's row that is neither a number nor a name has an operator.
 fn operator_of(kind: Kind) -> Operator
     ensures { result ≡ operator_at kind }
 {
-    match kind {
-        Kind::Add => Operator::Add,
-        Kind::Sub => Operator::Sub,
-        Kind::Mul => Operator::Mul,
-        _ => Operator::Div,
-    }
+    kind.operator().unwrap_or(Operator::Div)
 }

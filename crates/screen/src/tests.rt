@@ -1,6 +1,5 @@
 // Sheets worked out. A row is written in four characters: its kind, its value, its size in two digits; M is the largest
 // number. Its place is its index, so that a stop tells which row it was.
-use crate::answer::Answer;
 use crate::screening::work_out;
 use std::alloc::{AllocError, Global};
 use std::test::Fail;
@@ -72,9 +71,9 @@ fn rows_of(heap: Global, text: &str) -> Result<Vec<Row>, AllocError> {
 // Number, figure and cost: zeros for "ended" before its cost, and no cost with a refusal.
 fn told(rows: &[Row], points: &mut [i32], allowance: u32) -> (u8, u64, u32) {
     match work_out(rows, points, allowance) {
-        Ok(outcome) => match outcome.answer {
-            Answer::Ended => (0, 0, outcome.cost),
-            Answer::Stopped(fault) => (fault.number(), fault.figure, outcome.cost),
+        Ok(outcome) => match outcome.stop {
+            None => (0, 0, outcome.cost),
+            Some(fault) => (fault.number(), fault.figure, outcome.cost),
         },
         Err(fault) => (fault.number(), fault.figure, 0),
     }
