@@ -14,12 +14,13 @@ use Rattle.compiler.specs.Code.{Line, sheet_code, instructions_of, places_of}
 use Rattle.compiler.specs.Depths.{first_deep, sheet_depths}
 use Rattle.compiler.specs.Sheets.{sheet_of}
 use Rattle.compiler.specs.Lists.{over}
-use Rattle.compiler.specs.Parts.{Room, Laid}
+use Rattle.compiler.specs.Parts.{Room, LaidPart}
 use Rattle.compiler.specs.Compiles.{refusal, Outcome, outcome, compiled}
 use Rattle.compiler.specs.Laws.{LaysCode, Compilable, Takes, OneCode}
 use Rattle.compiler.proofs.Telling.{one_code_lem}
 use Rattle.compiler.proofs.Overs.{length-instructions, length-places}
 use Rattle.compiler.proofs.Parting.{long}
+use Rattle.compiler.proofs.Laying.{room-at}
 use Rattle.compiler.proofs.Sheeting.{sheet-of}
 use Rattle.compiler.proofs.Measured.{sheet_measure}
 use Rattle.compiler.proofs.Standing.{Standing, sheet-stands}
@@ -75,11 +76,12 @@ module _ (c : ℕ) (rows : List Row) (I : List Instruction) (P : List ℕ) (slot
         short = omega (arith, n, pass.short);
       }
 
-  pub whole-laid : (r : ℕ) (I1 : List Instruction) (P1 : List ℕ) → Laid 0 (whole.part.code 0) I P r I1 P1 → (Ok r, I1, P1) ≡ compiled c rows I P
-  whole-laid r I1 P1 l =
+  pub whole-laid : {R' : List Row} {e' r : ℕ} {I1 : List Instruction} {P1 : List ℕ} → (R' ≡ rows) × (e' ≡ length rows) → LaidPart R' e' 0 I P r I1 P1 → (Ok r, I1, P1) ≡ compiled c rows I P
+  whole-laid {r = r} {I1 = I1} {P1 = P1} at laid =
       let t = pass.table.tree in
       let o = sheet-more c 64 pass.few t pass.table.over in
       let code = whole.code o 0 in
+      let l = laid whole.part (room-at at whole_room) in
       let n : r ≡ sheet_length t = l.next ∙ zero-add (length (whole.part.code 0)) ∙ ap length code ∙ code-long t o in
       let i : I1 ≡ over (instructions_of (sheet_code 0 t)) I = l.instructions ∙ ap (λ (xs : List Line). over (instructions_of xs) I) code in
       let p : P1 ≡ over (places_of (sheet_code 0 t)) P = l.places ∙ ap (λ (xs : List Line). over (places_of xs) P) code in
@@ -90,10 +92,9 @@ module _ (c : ℕ) (rows : List Row) (I : List Instruction) (P : List ℕ) (slot
       ∙ ap (λ (u : Sheet). outcome None u I P) (sym pass.same)
       ∙ ap (λ (f : Option Fault). outcome f (sheet_of rows) I P) (sym free')
 
-pub refused-value : (c : ℕ) (rows : List Row) (I : List Instruction) (P : List ℕ) (slots : ℕ) (f : Fault) → slots ≡ min (length I) (length P) → refusal c rows slots ≡ Some f → (Err f, I, P) ≡ compiled c rows I P
-refused-value c rows I P slots f e g =
-    let h : refusal c rows (min (length I) (length P)) ≡ Some f = ap (refusal c rows) (sym e) ∙ g in
-    sym (ap (λ (o : Option Fault). outcome o (sheet_of rows) I P) h)
+-- and stands in the lists that were lent
+pub laid-there : {r : Result ℕ Fault} {I I1 : List Instruction} {P P1 : List ℕ} {o : Outcome} → I1 ≡ I → P1 ≡ P → (r, I, P) ≡ o → (r, I1, P1) ≡ o
+laid-there {r} {I} {I1} {P} {P1} f g h = ap (λ (xs : List Instruction). (r, xs, P1)) f ∙ ap (λ (xs : List ℕ). (r, I, xs)) g ∙ h
 
 -- the laws
 

@@ -20,7 +20,7 @@ use Rattle.compiler.proofs.Sheeting.{sheet-of}
 -- the limits on code, by what was measured
 
 module _ (t : Sheet) (rows : List Row) (slots : ℕ) (m : Measure) (is : sheet_of rows ≡ t) (e : m ≡ sheet_measure t) where
-  by-measure : code_refusal (sheet_of rows) slots ≡ first_of (depth_refusal m.deep) (room_refusal m.length slots)
+  pub by-measure : code_refusal (sheet_of rows) slots ≡ first_of (depth_refusal m.deep) (room_refusal m.length slots)
   by-measure =
       ap (λ (u : Sheet). code_refusal u slots) is
       ∙ sym (ap (λ (w : Measure). first_of (depth_refusal w.deep) (room_refusal w.length slots)) e)
