@@ -1,6 +1,7 @@
 -- What is laid of a table that is not refused is its sheet's code; and the laws of compiling follow from its value.
 use Rattle.std.proofs.Common.{◌≡◌, ℕ, ◌≤◌, min, List, [], ◌∷◌, length, take, is_ok, Some, None, Ok, Err, Option, Result, sym, refl, ap, ◌∙◌, subst, zero-add, arith}
 use Rattle.std.proofs.lemmas.Bool.{le-leb, false≢true}
+use Rattle.std.proofs.lemmas.Bool.Decides.{nat_tests}
 use Rattle.faults.specs.declared.fault.Fault.{Fault}
 use Rattle.instructions.specs.declared.instruction.Instruction.{Instruction}
 use Rattle.tables.specs.declared.row.Row.{Row}
@@ -15,7 +16,7 @@ use Rattle.compiler.specs.Depths.{first_deep, sheet_depths}
 use Rattle.compiler.specs.Sheets.{sheet_of}
 use Rattle.compiler.specs.Lists.{over}
 use Rattle.compiler.specs.Parts.{Room, LaidPart}
-use Rattle.compiler.specs.Compiles.{refusal, Outcome, outcome, compiled}
+use Rattle.compiler.specs.Compiles.{code_refusal, refusal, Outcome, outcome, compiled}
 use Rattle.compiler.specs.Laws.{LaysCode, Compilable, Takes, OneCode}
 use Rattle.compiler.proofs.Telling.{one_code_lem}
 use Rattle.compiler.proofs.Overs.{length-instructions, length-places}
@@ -24,7 +25,7 @@ use Rattle.compiler.proofs.Laying.{room-at}
 use Rattle.compiler.proofs.Sheeting.{sheet-of}
 use Rattle.compiler.proofs.Measured.{sheet_measure}
 use Rattle.compiler.proofs.Standing.{Standing, sheet-stands}
-use Rattle.compiler.proofs.Refusing.{Passed, passed, few-points, none-refused}
+use Rattle.compiler.proofs.Refusing.{Passed, passed, few-points}
 use Rattle.compiler.proofs.Shallow.{shallow-sheet, none-sheet}
 
 -- over fewer points, so over more
@@ -154,7 +155,10 @@ module _ (c : ℕ) (rows : List Row) (I : List Instruction) (P : List ℕ) (r : 
       let is = accepts-table c rows T in
       let same = sheet-of T.tree rows T.listed in
       sym (few-points c slots rows None (record { table_is = is; few-is = le-leb c 64 k.few })
-      (none-refused T.tree rows slots (sheet_measure T.tree) same refl (none-sheet T.tree k.shallow) k.short k.room))
+      (sym free))
+    where
+      free : code_refusal (sheet_of rows) slots ≡ None
+      free = rw (sheet-of k.table.tree rows k.table.listed, none-sheet k.table.tree k.shallow) (grind (arith, nat_tests, k.short, k.room))
 
   takes_at : (o : Option Fault) → refusal c rows (min (length I) (length P)) ≡ o → r ≡ (outcome o (sheet_of rows) I P).0 → Takes c rows (min (length I) (length P)) r
   takes_at (Some f) e g =

@@ -1,5 +1,5 @@
 -- What is refused of a table, and what is known of one that is not refused.
-use Rattle.std.proofs.Common.{◌≡◌, ℕ, ◌<◌, ◌≤◌, Bool, true, false, cond, ltb, leb, ◌⊎◌, List, Some, None, Ok, Err, Option, Result, sym, refl, ap, ◌∙◌, inl, inr, arith}
+use Rattle.std.proofs.Common.{◌≡◌, ℕ, ◌<◌, ◌≤◌, Bool, true, false, cond, ltb, leb, ◌⊎◌, List, length, Some, None, Ok, Err, Option, Result, sym, refl, ap, ◌∙◌, inl, inr, arith}
 use Rattle.std.proofs.lemmas.Bool.{ltb-false, leb-true, lt-ltb, le-ltb, or_left, or_right, or_from, or_parts}
 use Rattle.faults.specs.declared.causes.BankCause.{BankCause}
 use Rattle.faults.specs.declared.causes.Layer.TheVariants as layer
@@ -14,32 +14,17 @@ use Rattle.compiler.specs.declared.measure.Measure.{Measure}
 use Rattle.compiler.specs.Depths.{first_of, first_deep, sheet_depths}
 use Rattle.compiler.specs.Sheets.{sheet_of}
 use Rattle.compiler.specs.Compiles.{deep_at, too_long, depth_refusal, room_refusal, code_refusal, point_refusal, refusal}
-use Rattle.compiler.proofs.Measured.{sheet_measure}
+use Rattle.compiler.specs.Parts.{Part, Stands}
+use Rattle.compiler.proofs.Parting.{standing-at}
+use Rattle.compiler.proofs.Standing.{sheet-stands}
 use Rattle.compiler.proofs.Sheeting.{sheet-of}
 
 -- the limits on code, by what was measured
-
-module _ (t : Sheet) (rows : List Row) (slots : ℕ) (m : Measure) (is : sheet_of rows ≡ t) (e : m ≡ sheet_measure t) where
-  pub by-measure : code_refusal (sheet_of rows) slots ≡ first_of (depth_refusal m.deep) (room_refusal m.length slots)
-  by-measure =
-      ap (λ (u : Sheet). code_refusal u slots) is
-      ∙ sym (ap (λ (w : Measure). first_of (depth_refusal w.deep) (room_refusal w.length slots)) e)
-
-  pub deep-refused : (q : ℕ) → m.deep ≡ Some q → Some (deep_at q) ≡ code_refusal (sheet_of rows) slots
-  deep-refused q d = sym (by-measure ∙ ap (λ (o : Option ℕ). first_of (depth_refusal o) (room_refusal m.length slots)) d)
-
-  room-refused : m.deep ≡ None → code_refusal (sheet_of rows) slots ≡ room_refusal m.length slots
-  room-refused d = by-measure ∙ ap (λ (o : Option ℕ). first_of (depth_refusal o) (room_refusal m.length slots)) d
-
-  pub long-refused : m.deep ≡ None → (1024 < m.length) ⊎ (slots < m.length) → Some (too_long m.length) ≡ code_refusal (sheet_of rows) slots
-  long-refused d (inl l) =
-      sym (room-refused d ∙ ap (λ (b : Bool). cond b (Some (too_long m.length)) None) (or_left (ltb 1024 m.length) (ltb slots m.length) (lt-ltb 1024 m.length l)))
-  long-refused d (inr l) =
-      sym (room-refused d ∙ ap (λ (b : Bool). cond b (Some (too_long m.length)) None) (or_right (ltb 1024 m.length) (ltb slots m.length) (lt-ltb slots m.length l)))
-
-  pub none-refused : m.deep ≡ None → m.length ≤ 1024 → m.length ≤ slots → None ≡ code_refusal (sheet_of rows) slots
-  none-refused d f g =
-      sym (room-refused d ∙ ap (λ (b : Bool). cond b (Some (too_long m.length)) None) (or_from (ltb 1024 m.length) (ltb slots m.length) (le-ltb 1024 m.length f) (le-ltb slots m.length g)))
+pub by-measure : {c : ℕ} {rows R : List Row} {e : ℕ} (T : Table c rows) (slots : ℕ) (m : Measure) → (R ≡ rows) × (e ≡ length rows) → ((v : Part) → Stands R e v → m ≡ v.measure) → code_refusal (sheet_of rows) slots ≡ first_of (depth_refusal m.deep) (room_refusal m.length slots)
+by-measure {rows = rows} T slots m at f =
+    let S = sheet-stands T.tree rows T.listed in
+    ap (λ (u : Sheet). code_refusal u slots) (sheet-of T.tree rows T.listed)
+    ∙ sym (ap (λ (w : Measure). first_of (depth_refusal w.deep) (room_refusal w.length slots)) (f S.part (standing-at at S.stands) ∙ S.measure))
 
 -- the verdict on the rows, by what the check answered
 

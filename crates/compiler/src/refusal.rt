@@ -35,18 +35,13 @@ fn within_limits<'a>(rows: &'a [Row], slots: usize) -> Result<Node<'a>, Fault>
 {
     let sheet = Node::sheet(rows);
     let measured = measure(sheet);
-    if let Some(place) = measured.deep {
-        return Err(Fault {
-            layer: Layer::Compiler(CompilerCause::TooDeep),
-            figure: u64::from(place),
-        });
-    }
     let needed = measured.length as usize;
-    if needed > MOST_INSTRUCTIONS || needed > slots {
-        return Err(Fault {
-            layer: Layer::Compiler(CompilerCause::TooLong),
-            figure: needed as u64,
-        });
+    match measured.deep {
+        Some(place) => Err(Fault::new(Layer::Compiler(CompilerCause::TooDeep), usize::from(place))),
+        None if needed > MOST_INSTRUCTIONS || needed > slots => Err(Fault::new(
+            Layer::Compiler(CompilerCause::TooLong),
+            needed,
+        )),
+        None => Ok(sheet),
     }
-    Ok(sheet)
 }
