@@ -1,14 +1,12 @@
 -- What is laid of a table that is not refused is its sheet's code; and the laws of compiling follow from its value.
 use Rattle.std.proofs.Common.{◌≡◌, ℕ, ◌≤◌, min, List, [], ◌∷◌, length, take, is_ok, Some, None, Ok, Err, Option, Result, sym, refl, ap, ◌∙◌, subst, zero-add, arith}
-use Rattle.std.proofs.lemmas.Bool.{le-leb, false≢true}
-use Rattle.std.proofs.lemmas.Bool.Decides.{nat_tests}
+use Rattle.std.proofs.lemmas.Bool.{false≢true}
 use Rattle.faults.specs.declared.fault.Fault.{Fault}
 use Rattle.instructions.specs.declared.instruction.Instruction.{Instruction}
 use Rattle.tables.specs.declared.row.Row.{Row}
 use Rattle.tables.specs.Trees.{Sum, number, name, work, Condition, truth, compare, negate, connect, Command, set, when, choose, while, Sheet, only, joint}
 use Rattle.tables.specs.Rows.{sheet_rows, sheet_size}
 use Rattle.tables.specs.Tables.{SumOver, ConditionOver, CommandOver, SheetOver}
-use Rattle.tables.proofs.Standing.{accepts-table}
 use Rattle.folds.specs.CodeLengths.{sheet_length}
 use Rattle.compiler.specs.declared.measure.Measure.{Measure}
 use Rattle.compiler.specs.Code.{Line, sheet_code, instructions_of, places_of}
@@ -16,8 +14,8 @@ use Rattle.compiler.specs.Depths.{first_deep, sheet_depths}
 use Rattle.compiler.specs.Sheets.{sheet_of}
 use Rattle.compiler.specs.Lists.{over}
 use Rattle.compiler.specs.Parts.{Room, LaidPart}
-use Rattle.compiler.specs.Compiles.{code_refusal, refusal, Outcome, outcome, compiled}
-use Rattle.compiler.specs.Laws.{LaysCode, Compilable, Takes, OneCode}
+use Rattle.compiler.specs.Compiles.{refusal, Outcome, outcome, compiled}
+use Rattle.compiler.specs.Laws.{LaysCode, Takes, OneCode}
 use Rattle.compiler.proofs.Telling.{one_code_lem}
 use Rattle.compiler.proofs.Overs.{length-instructions, length-places}
 use Rattle.compiler.proofs.Parting.{long}
@@ -25,8 +23,8 @@ use Rattle.compiler.proofs.Laying.{room-at}
 use Rattle.compiler.proofs.Sheeting.{sheet-of}
 use Rattle.compiler.proofs.Measured.{sheet_measure}
 use Rattle.compiler.proofs.Standing.{Standing, sheet-stands}
-use Rattle.compiler.proofs.Refusing.{Passed, passed, few-points}
-use Rattle.compiler.proofs.Shallow.{shallow-sheet, none-sheet}
+use Rattle.compiler.proofs.Refusing.{Passed, passed, not_refused}
+use Rattle.compiler.proofs.Shallow.{shallow-sheet}
 
 -- over fewer points, so over more
 
@@ -149,22 +147,11 @@ module _ (c : ℕ) (rows : List Row) (I : List Instruction) (P : List ℕ) (r : 
   pub lays : (r, I1, P1) ≡ compiled c rows I P → LaysCode rows r I1 P1
   lays g = lays-at (refusal c rows (min (length I) (length P))) refl g
 
-  compilable-free : (slots : ℕ) → Compilable c rows slots → refusal c rows slots ≡ None
-  compilable-free slots k =
-      let T = k.table in
-      let is = accepts-table c rows T in
-      let same = sheet-of T.tree rows T.listed in
-      sym (few-points c slots rows None (record { table_is = is; few-is = le-leb c 64 k.few })
-      (sym free))
-    where
-      free : code_refusal (sheet_of rows) slots ≡ None
-      free = rw (sheet-of k.table.tree rows k.table.listed, none-sheet k.table.tree k.shallow) (grind (arith, nat_tests, k.short, k.room))
-
   takes_at : (o : Option Fault) → refusal c rows (min (length I) (length P)) ≡ o → r ≡ (outcome o (sheet_of rows) I P).0 → Takes c rows (min (length I) (length P)) r
   takes_at (Some f) e g =
       record {
         only = λ h. absurd (false≢true (sym (ap is_ok g) ∙ h));
-        each = λ k. absurd (some-none (sym e ∙ compilable-free (min (length I) (length P)) k));
+        each = λ k. absurd (some-none (sym e ∙ not_refused c (min (length I) (length P)) rows k));
       }
     where
       some-none : {x : Fault} → ◌≡◌ {A = Option Fault} (Some x) None → ⊥
