@@ -1,30 +1,30 @@
 -- What is laid of a table that is not refused is its sheet's code; and the laws of compiling follow from its value.
 use Rattle.std.proofs.Common.{◌≡◌, ℕ, ◌≤◌, min, List, [], ◌∷◌, length, take, is_ok, Some, None, Ok, Err, Option, Result, sym, refl, ap, ◌∙◌, subst, zero-add, arith}
-use Rattle.std.proofs.lemmas.Bool.{le-leb, false≢true}
+use Rattle.std.proofs.lemmas.Bool.{false≢true}
 use Rattle.faults.specs.declared.fault.Fault.{Fault}
 use Rattle.instructions.specs.declared.instruction.Instruction.{Instruction}
 use Rattle.tables.specs.declared.row.Row.{Row}
 use Rattle.tables.specs.Trees.{Sum, number, name, work, Condition, truth, compare, negate, connect, Command, set, when, choose, while, Sheet, only, joint}
 use Rattle.tables.specs.Rows.{sheet_rows, sheet_size}
 use Rattle.tables.specs.Tables.{SumOver, ConditionOver, CommandOver, SheetOver}
-use Rattle.tables.proofs.Standing.{accepts-table}
 use Rattle.folds.specs.CodeLengths.{sheet_length}
 use Rattle.compiler.specs.declared.measure.Measure.{Measure}
 use Rattle.compiler.specs.Code.{Line, sheet_code, instructions_of, places_of}
 use Rattle.compiler.specs.Depths.{first_deep, sheet_depths}
 use Rattle.compiler.specs.Sheets.{sheet_of}
 use Rattle.compiler.specs.Lists.{over}
-use Rattle.compiler.specs.Parts.{Room, Laid}
+use Rattle.compiler.specs.Parts.{Room, LaidPart}
 use Rattle.compiler.specs.Compiles.{refusal, Outcome, outcome, compiled}
-use Rattle.compiler.specs.Laws.{LaysCode, Compilable, Takes, OneCode}
+use Rattle.compiler.specs.Laws.{LaysCode, Takes, OneCode}
 use Rattle.compiler.proofs.Telling.{one_code_lem}
 use Rattle.compiler.proofs.Overs.{length-instructions, length-places}
 use Rattle.compiler.proofs.Parting.{long}
+use Rattle.compiler.proofs.Laying.{room-at}
 use Rattle.compiler.proofs.Sheeting.{sheet-of}
 use Rattle.compiler.proofs.Measured.{sheet_measure}
 use Rattle.compiler.proofs.Standing.{Standing, sheet-stands}
-use Rattle.compiler.proofs.Refusing.{Passed, passed, few-points, none-refused}
-use Rattle.compiler.proofs.Shallow.{shallow-sheet, none-sheet}
+use Rattle.compiler.proofs.Refusing.{Passed, passed, not_refused}
+use Rattle.compiler.proofs.Shallow.{shallow-sheet}
 
 -- over fewer points, so over more
 
@@ -75,11 +75,12 @@ module _ (c : ℕ) (rows : List Row) (I : List Instruction) (P : List ℕ) (slot
         short = omega (arith, n, pass.short);
       }
 
-  pub whole-laid : (r : ℕ) (I1 : List Instruction) (P1 : List ℕ) → Laid 0 (whole.part.code 0) I P r I1 P1 → (Ok r, I1, P1) ≡ compiled c rows I P
-  whole-laid r I1 P1 l =
+  pub whole-laid : {R' : List Row} {e' r : ℕ} {I1 : List Instruction} {P1 : List ℕ} → (R' ≡ rows) × (e' ≡ length rows) → LaidPart R' e' 0 I P r I1 P1 → (Ok r, I1, P1) ≡ compiled c rows I P
+  whole-laid {r = r} {I1 = I1} {P1 = P1} at laid =
       let t = pass.table.tree in
       let o = sheet-more c 64 pass.few t pass.table.over in
       let code = whole.code o 0 in
+      let l = laid whole.part (room-at at whole_room) in
       let n : r ≡ sheet_length t = l.next ∙ zero-add (length (whole.part.code 0)) ∙ ap length code ∙ code-long t o in
       let i : I1 ≡ over (instructions_of (sheet_code 0 t)) I = l.instructions ∙ ap (λ (xs : List Line). over (instructions_of xs) I) code in
       let p : P1 ≡ over (places_of (sheet_code 0 t)) P = l.places ∙ ap (λ (xs : List Line). over (places_of xs) P) code in
@@ -90,10 +91,9 @@ module _ (c : ℕ) (rows : List Row) (I : List Instruction) (P : List ℕ) (slot
       ∙ ap (λ (u : Sheet). outcome None u I P) (sym pass.same)
       ∙ ap (λ (f : Option Fault). outcome f (sheet_of rows) I P) (sym free')
 
-pub refused-value : (c : ℕ) (rows : List Row) (I : List Instruction) (P : List ℕ) (slots : ℕ) (f : Fault) → slots ≡ min (length I) (length P) → refusal c rows slots ≡ Some f → (Err f, I, P) ≡ compiled c rows I P
-refused-value c rows I P slots f e g =
-    let h : refusal c rows (min (length I) (length P)) ≡ Some f = ap (refusal c rows) (sym e) ∙ g in
-    sym (ap (λ (o : Option Fault). outcome o (sheet_of rows) I P) h)
+-- and stands in the lists that were lent
+pub laid-there : {r : Result ℕ Fault} {I I1 : List Instruction} {P P1 : List ℕ} {o : Outcome} → I1 ≡ I → P1 ≡ P → (r, I, P) ≡ o → (r, I1, P1) ≡ o
+laid-there {r} {I} {I1} {P} {P1} f g h = ap (λ (xs : List Instruction). (r, xs, P1)) f ∙ ap (λ (xs : List ℕ). (r, I, xs)) g ∙ h
 
 -- the laws
 
@@ -147,19 +147,11 @@ module _ (c : ℕ) (rows : List Row) (I : List Instruction) (P : List ℕ) (r : 
   pub lays : (r, I1, P1) ≡ compiled c rows I P → LaysCode rows r I1 P1
   lays g = lays-at (refusal c rows (min (length I) (length P))) refl g
 
-  compilable-free : (slots : ℕ) → Compilable c rows slots → refusal c rows slots ≡ None
-  compilable-free slots k =
-      let T = k.table in
-      let is = accepts-table c rows T in
-      let same = sheet-of T.tree rows T.listed in
-      sym (few-points c slots rows None (record { table_is = is; few-is = le-leb c 64 k.few })
-      (none-refused T.tree rows slots (sheet_measure T.tree) same refl (none-sheet T.tree k.shallow) k.short k.room))
-
   takes_at : (o : Option Fault) → refusal c rows (min (length I) (length P)) ≡ o → r ≡ (outcome o (sheet_of rows) I P).0 → Takes c rows (min (length I) (length P)) r
   takes_at (Some f) e g =
       record {
         only = λ h. absurd (false≢true (sym (ap is_ok g) ∙ h));
-        each = λ k. absurd (some-none (sym e ∙ compilable-free (min (length I) (length P)) k));
+        each = λ k. absurd (some-none (sym e ∙ not_refused c (min (length I) (length P)) rows k));
       }
     where
       some-none : {x : Fault} → ◌≡◌ {A = Option Fault} (Some x) None → ⊥

@@ -1,275 +1,397 @@
--- Laying the parts of a row and then its own instructions lays the row's code.
-use Rattle.std.proofs.Common.{◌≡◌, ℕ, ◌+◌, ◌-◌, ◌<◌, ◌≤◌, List, [], ◌∷◌, ◌++◌, length, get_or, set, sym, refl, ap, ◌∙◌, subst, arith}
+-- Laying the parts of a node and then its own lines lays the node's code.
+use Rattle.std.proofs.Common.{◌≡◌, ℕ, ◌+◌, ◌-◌, ◌<◌, ◌≤◌, List, [], ◌∷◌, ◌++◌, length, get_or, sym, refl, ap, ◌∙◌, subst, append_assoc, length-set, arith}
 use Rattle.instructions.specs.declared.instruction.Instruction.{Instruction}
 use Rattle.instructions.specs.declared.instruction.Instruction.TheVariants.{Save, Pop, JumpF, Jump}
 use Rattle.tables.specs.declared.row.Row.{Row}
 use Rattle.tables.specs.Rows.{blank}
 use Rattle.compiler.specs.declared.shape.Shape.{Shape}
 use Rattle.compiler.specs.declared.shape.Shape.TheVariants as shape
+use Rattle.compiler.specs.declared.lay.Code.{Code}
 use Rattle.compiler.specs.Code.{Line, instructions_of, places_of}
 use Rattle.compiler.specs.Measures.{shape_of, part_count, own_length}
-use Rattle.compiler.specs.Parts.{Part, point_of, operation, own, one_code, two_code, Stands, Room, Laid, shape_at}
+use Rattle.compiler.specs.Parts.{Part, point_of, operation, own, one_code, two_code, Stands, Room, Laid, start_at, shape_at}
+use Rattle.compiler.specs.Written.{with_line, stepped, HasRoomIn, LaysPart}
 use Rattle.compiler.proofs.Overs.{length_over, laid_then, laid-put, laid-around}
-use Rattle.compiler.proofs.Parting.{zero_of, OneOf, one_of, TwoOf, two-of, ThreeOf, three-of, long}
+use Rattle.compiler.proofs.Parting.{zero_of, OneOf, one_of, TwoOf, two-of, ThreeOf, three-of, long, standing-at}
 
--- what a part leaves behind that was laid from a
+-- lines laid in the same lists
 
-pub record Done (a n : ℕ) (I : List Instruction) (P : List ℕ) (m : ℕ) (I1 : List Instruction) (P1 : List ℕ) : Type 0 where
-  pub at : m ≡ a + n
-  pub i : length I1 ≡ length I
-  pub p : length P1 ≡ length P
+pub record Lines (xs : List Line) (C D : Code) : Type 0 where
+  pub laid : Laid C.next xs C.instructions.now C.places.now D.next D.instructions.now D.places.now
+  pub instructions : D.instructions.ghost_name ≡ C.instructions.ghost_name
+  pub places : D.places.ghost_name ≡ C.places.ghost_name
 
-pub done : (R : List Row) (e a : ℕ) (v : Part) {I I1 : List Instruction} {P P1 : List ℕ} {m : ℕ} → Stands R e v → Laid a (v.code a) I P m I1 P1 → Done a v.measure.length I P m I1 P1
-done R e a v {I} {I1} {P} {P1} {m} s l =
+relaid : {xs ys : List Line} {C D : Code} → xs ≡ ys → Lines xs C D → Lines ys C D
+relaid {xs} {ys} {C} {D} e l = subst (λ (zs : List Line). Lines zs C D) e l
+
+lines-then : {xs ys : List Line} {C D E : Code} → Lines xs C D → Lines ys D E → Lines (xs ++ ys) C E
+lines-then f g =
     record {
-      at = l.next ∙ ap (λ (n : ℕ). a + n) (long R e v s a);
-      i = ap length l.instructions ∙ length_over a (instructions_of (v.code a)) I;
-      p = ap length l.places ∙ length_over a (places_of (v.code a)) P;
+      laid = laid_then f.laid g.laid;
+      instructions = g.instructions ∙ f.instructions;
+      places = g.places ∙ f.places;
     }
 
-relaid : {a : ℕ} {xs ys : List Line} {I I1 : List Instruction} {P P1 : List ℕ} {m : ℕ} → xs ≡ ys → Laid a xs I P m I1 P1 → Laid a ys I P m I1 P1
-relaid {a} {xs} {ys} {I} {I1} {P} {P1} {m} e l = subst (λ (zs : List Line). Laid a zs I P m I1 P1) e l
+pub lines-put : {C D : Code} (i : Instruction) (q : ℕ) → D ≡ stepped (with_line C C.next i q) → Lines ((i, q) ∷ []) C D
+lines-put {C} {D} i q e =
+    subst (λ (X : Code). Lines ((i, q) ∷ []) C X) (sym e)
+    (record { laid = laid-put C.next q i _ _ _ _ _ refl refl refl; instructions = refl; places = refl })
 
-module _ (R : List Row) (e a : ℕ) (I : List Instruction) (P : List ℕ) (v : Part) (room : Room R e a (length I) (length P) v) where
-  -- no parts
+-- the line between two pieces may be put when both are laid
+lines-around : {xs ys : List Line} {C D D' E F : Code} {j : ℕ} (i : Instruction) (q : ℕ) → Lines xs C D → j ≡ D.next → D' ≡ stepped D → Lines ys D' E → F ≡ with_line E j i q → Lines (xs ++ (i, q) ∷ ys) C F
+lines-around {xs} {ys} {C} {D} {D'} {E} {F} {j} i q f at skip g e =
+    let g' : Lines ys (stepped D) E = subst (λ (X : Code). Lines ys X E) skip g in
+    let e' : F ≡ with_line E D.next i q = e ∙ ap (λ (n : ℕ). with_line E n i q) at in
+    subst (λ (X : Code). Lines (xs ++ (i, q) ∷ ys) C X) (sym e')
+    (record {
+      laid = laid-around q i f.laid g'.laid refl refl;
+      instructions = g'.instructions ∙ f.instructions;
+      places = g'.places ∙ f.places;
+    })
 
-  leaf-length : part_count (shape_at R e) ≡ 0 → v.measure.length ≡ 1
-  leaf-length k = ap (λ (w : Part). w.measure.length) (zero_of R e v room.stands k)
+-- the line of a row of sums or conditions
+pub lines-own : (R : List Row) (e : ℕ) {C D : Code} {r : Row} {i : Instruction} → r ≡ get_or R (e - 1) blank → i ≡ operation r.kind r.value → D ≡ stepped (with_line C C.next i r.place) → Lines (own (get_or R (e - 1) blank) ∷ []) C D
+lines-own R e {C} {D} {r} {i} f g h =
+    lines-put _ _ (h ∙ ap (λ (x : Instruction). stepped (with_line C C.next x r.place)) g ∙ ap (λ (x : Row). stepped (with_line C C.next (operation x.kind x.value) x.place)) f)
 
-  pub leaf_room : part_count (shape_at R e) ≡ 0 → (a < length I) × (a < length P)
-  leaf_room k = let n = leaf-length k in (omega (arith, room.slots), omega (arith, room.places))
+-- where a node says that it stands
 
-  pub leaf-laid : part_count (shape_at R e) ≡ 0 → (r : Row) (x : Instruction) (m : ℕ) (I1 : List Instruction) (P1 : List ℕ) → r ≡ get_or R (e - 1) blank → x ≡ operation r.kind r.value → m ≡ a + 1 → I1 ≡ set I a x → P1 ≡ set P a r.place → Laid a (v.code a) I P m I1 P1
-  leaf-laid k r x m I1 P1 f g h i j =
-      relaid (ap (λ (y : Instruction). (y, r.place) ∷ []) g ∙ ap (λ (z : Row). own z ∷ []) f ∙ sym (ap (λ (w : Part). w.code a) (zero_of R e v room.stands k)))
-      (laid-put a r.place x I I1 P P1 m h i j)
+pub room-at : {R R' : List Row} {e e' a i p : ℕ} {v : Part} → (R' ≡ R) × (e' ≡ e) → Room R e a i p v → Room R' e' a i p v
+room-at h r = record { stands = standing-at h r.stands; slots = r.slots; places = r.places; short = r.short }
 
-  -- one part
+pub lines-of : {R R' : List Row} {e e' : ℕ} {v : Part} {C D : Code} → (R' ≡ R) × (e' ≡ e) → LaysPart R' e' C D → Room R e C.next (length C.instructions.now) (length C.places.now) v → Lines (v.code C.next) C D
+lines-of {v = v} h l r = record { laid = l.laid v (room-at h r); instructions = l.instructions; places = l.places }
 
-  module _ (k : part_count (shape_at R e) ≡ 1) where
-    pub one : OneOf R e v
-    one = one_of R e v room.stands k
+pub lays-part : (R : List Row) (e : ℕ) (C D : Code) → HasRoomIn R e C → ((v : Part) → Room R e C.next (length C.instructions.now) (length C.places.now) v → Lines (v.code C.next) C D) → LaysPart R e C D
+lays-part R e C D h f =
+    let l = f h.0 h.1 in
+    record { laid = λ v r. (f v r).laid; instructions = l.instructions; places = l.places }
 
-    pub one-total : v.measure.length ≡ one.x.measure.length + own_length (shape_at R e)
-    one-total = ap (λ (w : Part). w.measure.length) one.is
+-- how far the next address has moved on, in lists of the same lengths
 
-    pub one-room : Room R (e - 1) a (length I) (length P) one.x
-    one-room =
-        let n = one-total in
-        record {
-          stands = one.part;
-          slots = omega (arith, room.slots);
-          places = omega (arith, room.places);
-          short = omega (arith, room.short);
-        }
+pub record Moved (n : ℕ) (C D : Code) : Type 0 where
+  pub at : D.next ≡ C.next + n
+  pub instructions : length D.instructions.now ≡ length C.instructions.now
+  pub places : length D.places.now ≡ length C.places.now
 
-    one_code_lem : (s : Shape) → shape_at R e ≡ s → one_code s (get_or R (e - 1) blank) (one.x.code a) ≡ v.code a
-    one_code_lem s f = ap (λ (z : Shape). one_code z (get_or R (e - 1) blank) (one.x.code a)) (sym f) ∙ sym (ap (λ (w : Part). w.code a) one.is)
+pub moved-lines : {R : List Row} {e : ℕ} {v : Part} {C D : Code} → Stands R e v → Lines (v.code C.next) C D → Moved v.measure.length C D
+moved-lines {R} {e} {v} {C} s l =
+    record {
+      at = l.laid.next ∙ ap (λ (n : ℕ). C.next + n) (long R e v s C.next);
+      instructions = ap length l.laid.instructions ∙ length_over C.next (instructions_of (v.code C.next)) C.instructions.now;
+      places = ap length l.laid.places ∙ length_over C.next (places_of (v.code C.next)) C.places.now;
+    }
 
-    -- room for as many own instructions
-    pub one-next : (s : Shape) (m : ℕ) (I1 : List Instruction) (P1 : List ℕ) → shape_at R e ≡ s → Laid a (one.x.code a) I P m I1 P1 → (m + own_length s ≤ length I1) × (m + own_length s ≤ length P1)
-    one-next s m I1 P1 f l =
-        let d = done R (e - 1) a one.x one.part l in
-        let n = one-total in
-        let w : own_length (shape_at R e) ≡ own_length s = ap own_length f in
-        (omega (arith, d.at, d.i, room.slots), omega (arith, d.at, d.p, room.places))
+pub moved-line : {C D : Code} (a q : ℕ) (i : Instruction) → D ≡ with_line C a i q → Moved 0 C D
+moved-line {C} {D} a q i e =
+    subst (λ (X : Code). Moved 0 C X) (sym e)
+    (record { at = omega arith; instructions = length-set C.instructions.now a i; places = length-set C.places.now a q })
 
-    pub not-laid : shape_at R e ≡ shape.Not → (r : Row) (x : Instruction) (n m : ℕ) (I1 I2 : List Instruction) (P1 P2 : List ℕ) → r ≡ get_or R (e - 1) blank → x ≡ operation r.kind r.value → Laid a (one.x.code a) I P n I1 P1 → m ≡ n + 1 → I2 ≡ set I1 n x → P2 ≡ set P1 n r.place → Laid a (v.code a) I P m I2 P2
-    not-laid f r x n m I1 I2 P1 P2 g h l i j o =
-        relaid (ap (λ (y : Instruction). one.x.code a ++ (y, r.place) ∷ []) h ∙ ap (λ (z : Row). one.x.code a ++ own z ∷ []) g ∙ one_code_lem shape.Not f)
-        (laid_then l (laid-put n r.place x I1 I2 P1 P2 m i j o))
+pub moved-step : {C D : Code} → D ≡ stepped C → Moved 1 C D
+moved-step {C} {D} e = subst (λ (X : Code). Moved 1 C X) (sym e) (record { at = refl; instructions = refl; places = refl })
 
-    pub set-laid : shape_at R e ≡ shape.Set → (r : Row) (x : ℕ) (n k m : ℕ) (I1 I2 I3 : List Instruction) (P1 P2 P3 : List ℕ) → r ≡ get_or R (e - 1) blank → x ≡ point_of r.value → Laid a (one.x.code a) I P n I1 P1 → k ≡ n + 1 → I2 ≡ set I1 n (Save x) → P2 ≡ set P1 n r.place → m ≡ k + 1 → I3 ≡ set I2 k Pop → P3 ≡ set P2 k r.place → Laid a (v.code a) I P m I3 P3
-    set-laid f r x n k m I1 I2 I3 P1 P2 P3 g h l i j o i' j' o' =
-        relaid (ap (λ (y : ℕ). one.x.code a ++ (Save y, r.place) ∷ (Pop, r.place) ∷ []) h ∙ ap (λ (z : Row). one.x.code a ++ (Save (point_of z.value), z.place) ∷ (Pop, z.place) ∷ []) g ∙ one_code_lem shape.Set f)
-        (laid_then l (laid_then (laid-put n r.place (Save x) I1 I2 P1 P2 k i j o) (laid-put k r.place Pop I2 I3 P2 P3 m i' j' o')))
+pub moved-put : {C D : Code} (i : Instruction) (q : ℕ) → D ≡ stepped (with_line C C.next i q) → Moved 1 C D
+moved-put {C} {D} i q e =
+    subst (λ (X : Code). Moved 1 C X) (sym e)
+    (record { at = refl; instructions = length-set C.instructions.now C.next i; places = length-set C.places.now C.next q })
 
-  -- two parts
+pub moved-then : {m n : ℕ} {C D E : Code} → Moved m C D → Moved n D E → Moved (m + n) C E
+moved-then f g =
+    record {
+      at = omega (arith, f.at, g.at);
+      instructions = g.instructions ∙ f.instructions;
+      places = g.places ∙ f.places;
+    }
 
-  module _ (s : Shape) (f : shape_at R e ≡ s) (k : part_count s ≡ 2) where
-    pub two : TwoOf R e v
-    two = two-of R e v room.stands (ap part_count f ∙ k)
+pub moved-none : {C : Code} → Moved 0 C C
+moved-none = record { at = omega arith; instructions = refl; places = refl }
 
-    pub two-total : v.measure.length ≡ two.x.measure.length + two.y.measure.length + own_length s
-    two-total = ap (λ (w : Part). w.measure.length) two.is ∙ ap (λ (z : Shape). two.x.measure.length + two.y.measure.length + own_length z) f
+-- space for so many lines
 
-    pub left-room : (n : ℕ) → n ≡ e - 1 - two.y.rows → Room R n a (length I) (length P) two.x
-    left-room n g =
-        let t = two-total in
-        record {
-          stands = subst (λ (w : ℕ). Stands R w two.x) (sym g) two.left;
-          slots = omega (arith, room.slots);
-          places = omega (arith, room.places);
-          short = omega (arith, room.short);
-        }
+pub record Space (n : ℕ) (C : Code) : Type 0 where
+  pub slots : C.next + n ≤ length C.instructions.now
+  pub places : C.next + n ≤ length C.places.now
+  pub short : C.next + n ≤ 1024
 
-    -- the second part goes some instructions behind the first
-    pub right-room : (n j m m' : ℕ) (I1 : List Instruction) (P1 : List ℕ) → n ≡ e - 1 - two.y.rows → Laid a (two.x.code a) I P m I1 P1 → m' ≡ m + j → j ≤ own_length s → Room R (e - 1) m' (length I1) (length P1) two.y
-    right-room n j m m' I1 P1 g l h i =
-        let t = two-total in
-        let d = done R n a two.x (left-room n g).stands l in
-        record {
-          stands = two.right;
-          slots = omega (arith, room.slots, d.at, d.i);
-          places = omega (arith, room.places, d.at, d.p);
-          short = omega (arith, room.short, d.at);
-        }
+pub space-of : {R : List Row} {e : ℕ} {v : Part} {C : Code} → Room R e C.next (length C.instructions.now) (length C.places.now) v → Space v.measure.length C
+space-of r = record { slots = r.slots; places = r.places; short = r.short }
 
-    -- where both parts are laid
-    pub record Both (j m r : ℕ) (I1 I2 : List Instruction) (P1 P2 : List ℕ) : Type 0 where
-      pub first : m ≡ a + two.x.measure.length
-      pub second : r ≡ m + j + two.y.measure.length
-      pub slots : r + own_length s ≤ length I2 + j
-      pub places : r + own_length s ≤ length P2 + j
-      pub short : r + own_length s ≤ 1024 + j
+pub room-of : {R : List Row} {e : ℕ} {v : Part} {C : Code} → Stands R e v → Space v.measure.length C → Room R e C.next (length C.instructions.now) (length C.places.now) v
+room-of s r = record { stands = s; slots = r.slots; places = r.places; short = r.short }
 
-    pub both : (n j m m' r : ℕ) (I1 I2 : List Instruction) (P1 P2 : List ℕ) → n ≡ e - 1 - two.y.rows → Laid a (two.x.code a) I P m I1 P1 → m' ≡ m + j → Laid m' (two.y.code m') I1 P1 r I2 P2 → Both j m r I1 I2 P1 P2
-    both n j m m' r I1 I2 P1 P2 g l h l' =
-        let t = two-total in
-        let d = done R n a two.x (left-room n g).stands l in
-        let d' = done R (e - 1) m' two.y two.right l' in
-        record {
-          first = d.at;
-          second = omega (arith, d'.at);
-          slots = omega (arith, room.slots, d.at, d.i, d'.at, d'.i);
-          places = omega (arith, room.places, d.at, d.p, d'.at, d'.p);
-          short = omega (arith, room.short, d.at, d'.at);
-        }
+space-for : {m n : ℕ} {C : Code} → Space m C → n ≤ m → Space n C
+space-for s l =
+    record {
+      slots = omega (arith, s.slots);
+      places = omega (arith, s.places);
+      short = omega (arith, s.short);
+    }
 
-    pub two-code : two_code s (get_or R (e - 1) blank) two.x.measure.length two.y.measure.length two.x.code two.y.code a ≡ v.code a
-    two-code =
-        ap (λ (z : Shape). two_code z (get_or R (e - 1) blank) two.x.measure.length two.y.measure.length two.x.code two.y.code a) (sym f)
-        ∙ sym (ap (λ (w : Part). w.code a) two.is)
+pub space-after : {m n : ℕ} (k : ℕ) {C D : Code} → Space m C → Moved n C D → k + n ≤ m → Space k D
+space-after k s d l =
+    record {
+      slots = omega (arith, s.slots, d.at, d.instructions);
+      places = omega (arith, s.places, d.at, d.places);
+      short = omega (arith, s.short, d.at);
+    }
 
-  pub pair-laid : (f : shape_at R e ≡ shape.Pair) (r : Row) (x : Instruction) (n m h t : ℕ) (I1 I2 I3 : List Instruction) (P1 P2 P3 : List ℕ) → r ≡ get_or R (e - 1) blank → x ≡ operation r.kind r.value → n ≡ e - 1 - (two shape.Pair f refl).y.rows → Laid a ((two shape.Pair f refl).x.code a) I P m I1 P1 → Laid m ((two shape.Pair f refl).y.code m) I1 P1 h I2 P2 → t ≡ h + 1 → I3 ≡ set I2 h x → P3 ≡ set P2 h r.place → Laid a (v.code a) I P t I3 P3
-  pair-laid f r x n m h t I1 I2 I3 P1 P2 P3 g o d l l' i j k =
-      let T = two shape.Pair f refl in
-      let at = (done R n a T.x (left-room shape.Pair f refl n d).stands l).at in
+-- the next address is free, and one that was left before it stays free
+
+pub free : {n : ℕ} {C : Code} → Space n C → 1 ≤ n → (C.next < length C.instructions.now) × (C.next < length C.places.now)
+free s l = (omega (arith, s.slots), omega (arith, s.places))
+
+left_free : {m n a : ℕ} {C D : Code} → a ≡ C.next → Space m C → 1 ≤ m → Moved n C D → (a < length D.instructions.now) × (a < length D.places.now)
+left_free e s l d = (omega (arith, s.slots, d.instructions), omega (arith, s.places, d.places))
+
+pub kept : {n a : ℕ} {C D : Code} → (a < length C.instructions.now) × (a < length C.places.now) → Moved n C D → (a < length D.instructions.now) × (a < length D.places.now)
+kept h d = (omega (arith, h.0, d.instructions), omega (arith, h.1, d.places))
+
+-- no parts
+
+module _ (R : List Row) (e : ℕ) (C : Code) (h : HasRoomIn R e C) (k : part_count (shape_at R e) ≡ 0) where
+  leaf-lines : {D : Code} → Lines (own (get_or R (e - 1) blank) ∷ []) C D → Lines (h.0.code C.next) C D
+  leaf-lines l = relaid (sym (ap (λ (w : Part). w.code C.next) (zero_of R e h.0 h.1.stands k))) l
+
+pub lays-leaf : (R : List Row) (e : ℕ) (C : Code) (h : HasRoomIn R e C) → shape_at R e ≡ shape.Leaf → {D : Code} → Lines (own (get_or R (e - 1) blank) ∷ []) C D → LaysPart R e C D
+lays-leaf R e C h f l = lays-part R e C _ h (λ v r. leaf-lines R e C (v, r) (ap part_count f) l)
+
+-- one part
+
+module _ (R : List Row) (e : ℕ) (C : Code) (h : HasRoomIn R e C) (s : Shape) (f : shape_at R e ≡ s) (k : part_count s ≡ 1) where
+  pub one : OneOf R e h.0
+  one = one_of R e h.0 h.1.stands (ap part_count f ∙ k)
+
+  one-total : h.0.measure.length ≡ one.x.measure.length + own_length s
+  one-total = ap (λ (w : Part). w.measure.length) one.is ∙ ap (λ (z : Shape). one.x.measure.length + own_length z) f
+
+  one-room : Room R (e - 1) C.next (length C.instructions.now) (length C.places.now) one.x
+  one-room = let t = one-total in room-of {C = C} one.part (space-for {C = C} (space-of {C = C} h.1) (omega arith))
+
+  one-lines : {R1 : List Row} {e1 : ℕ} {D : Code} → (R1 ≡ R) × (e1 ≡ e - 1) → LaysPart R1 e1 C D → Lines (one.x.code C.next) C D
+  one-lines p l = lines-of p l one-room
+
+  pub one-space : {R1 : List Row} {e1 : ℕ} {D : Code} → (R1 ≡ R) × (e1 ≡ e - 1) → LaysPart R1 e1 C D → Space (own_length s) D
+  one-space p l =
+      let t = one-total in
+      space-after _ (space-of {C = C} h.1) (moved-lines one.part (one-lines p l)) (omega arith)
+
+  one-code : one_code s (get_or R (e - 1) blank) (one.x.code C.next) ≡ h.0.code C.next
+  one-code = ap (λ (z : Shape). one_code z (get_or R (e - 1) blank) (one.x.code C.next)) (sym f) ∙ sym (ap (λ (w : Part). w.code C.next) one.is)
+
+pub lays-not : (R : List Row) (e : ℕ) (C : Code) (h : HasRoomIn R e C) (f : shape_at R e ≡ shape.Not) {R1 : List Row} {e1 : ℕ} {D E : Code} → (R1 ≡ R) × (e1 ≡ e - 1) → LaysPart R1 e1 C D → Lines (own (get_or R (e - 1) blank) ∷ []) D E → LaysPart R e C E
+lays-not R e C h f p l l' =
+    lays-part R e C _ h (λ v r. relaid (one-code R e C (v, r) shape.Not f refl) (lines-then (one-lines R e C (v, r) shape.Not f refl p l) l'))
+
+pub lays-set : (R : List Row) (e : ℕ) (C : Code) (h : HasRoomIn R e C) (f : shape_at R e ≡ shape.Set) {R1 : List Row} {e1 x : ℕ} {r : Row} {D E F : Code} → (R1 ≡ R) × (e1 ≡ e - 1) → LaysPart R1 e1 C D → r ≡ get_or R (e - 1) blank → x ≡ point_of r.value → E ≡ stepped (with_line D D.next (Save x) r.place) → F ≡ stepped (with_line E E.next Pop r.place) → LaysPart R e C F
+lays-set R e C h f {r = r} {D = D} {E = E} {F = F} p l g i j k =
+    let save : Lines ((Save (point_of r.value), r.place) ∷ []) D E = lines-put _ _ (j ∙ ap (λ (y : ℕ). stepped (with_line D D.next (Save y) r.place)) i) in
+    let both : Lines ((Save (point_of r.value), r.place) ∷ (Pop, r.place) ∷ []) D F = lines-then save (lines-put _ _ k) in
+    let both' : Lines ((Save (point_of (get_or R (e - 1) blank).value), (get_or R (e - 1) blank).place) ∷ (Pop, (get_or R (e - 1) blank).place) ∷ []) D F = relaid (ap (λ (z : Row). (Save (point_of z.value), z.place) ∷ (Pop, z.place) ∷ []) g) both in
+    lays-part R e C F h (λ v r. relaid (one-code R e C (v, r) shape.Set f refl) (lines-then (one-lines R e C (v, r) shape.Set f refl p l) both'))
+
+-- two parts; the second may come some addresses behind the first
+
+module _ (R : List Row) (e : ℕ) (C : Code) (h : HasRoomIn R e C) (s : Shape) (f : shape_at R e ≡ s) (k : part_count s ≡ 2) where
+  two : TwoOf R e h.0
+  two = two-of R e h.0 h.1.stands (ap part_count f ∙ k)
+
+  two-total : h.0.measure.length ≡ two.x.measure.length + two.y.measure.length + own_length s
+  two-total = ap (λ (w : Part). w.measure.length) two.is ∙ ap (λ (z : Shape). two.x.measure.length + two.y.measure.length + own_length z) f
+
+  left_place : Room R (start_at R (e - 1)) C.next (length C.instructions.now) (length C.places.now) two.x
+  left_place = let t = two-total in room-of {C = C} two.left (space-for {C = C} (space-of {C = C} h.1) (omega arith))
+
+  pub left-room : {R1 : List Row} {e1 : ℕ} → (R1 ≡ R) × (e1 ≡ start_at R (e - 1)) → HasRoomIn R1 e1 C
+  left-room p = (two.x, room-at p left_place)
+
+  left-lines : {R1 : List Row} {e1 : ℕ} {D : Code} → (R1 ≡ R) × (e1 ≡ start_at R (e - 1)) → LaysPart R1 e1 C D → Lines (two.x.code C.next) C D
+  left-lines p l = lines-of p l left_place
+
+  left-moved : {R1 : List Row} {e1 : ℕ} {D : Code} → (R1 ≡ R) × (e1 ≡ start_at R (e - 1)) → LaysPart R1 e1 C D → Moved two.x.measure.length C D
+  left-moved p l = moved-lines two.left (left-lines p l)
+
+  -- behind the first part
+  left-space : {R1 : List Row} {e1 : ℕ} {D : Code} → (R1 ≡ R) × (e1 ≡ start_at R (e - 1)) → LaysPart R1 e1 C D → Space (two.y.measure.length + own_length s) D
+  left-space p l = let t = two-total in space-after _ (space-of {C = C} h.1) (left-moved p l) (omega arith)
+
+  pub gap-space : {R1 : List Row} {e1 : ℕ} {D : Code} → (R1 ≡ R) × (e1 ≡ start_at R (e - 1)) → LaysPart R1 e1 C D → Space (own_length s) D
+  gap-space p l = space-for (left-space p l) (omega arith)
+
+  right-place : {R1 : List Row} {e1 j : ℕ} {D D' : Code} → (R1 ≡ R) × (e1 ≡ start_at R (e - 1)) → LaysPart R1 e1 C D → Moved j D D' → j ≤ own_length s → Room R (e - 1) D'.next (length D'.instructions.now) (length D'.places.now) two.y
+  right-place {D' = D'} p l m i = room-of {C = D'} two.right (space-after _ (left-space p l) m (omega arith))
+
+  pub right-room : {R1 R2 : List Row} {e1 e2 j : ℕ} {D D' : Code} → (R1 ≡ R) × (e1 ≡ start_at R (e - 1)) → (R2 ≡ R) × (e2 ≡ e - 1) → LaysPart R1 e1 C D → Moved j D D' → j ≤ own_length s → HasRoomIn R2 e2 D'
+  right-room p q l m i = (two.y, room-at q (right-place p l m i))
+
+  right-lines : {R1 R2 : List Row} {e1 e2 j : ℕ} {D D' E : Code} → (R1 ≡ R) × (e1 ≡ start_at R (e - 1)) → (R2 ≡ R) × (e2 ≡ e - 1) → LaysPart R1 e1 C D → Moved j D D' → j ≤ own_length s → LaysPart R2 e2 D' E → Lines (two.y.code D'.next) D' E
+  right-lines p q l m i l' = lines-of q l' (right-place p l m i)
+
+  right-moved : {R1 R2 : List Row} {e1 e2 j : ℕ} {D D' E : Code} → (R1 ≡ R) × (e1 ≡ start_at R (e - 1)) → (R2 ≡ R) × (e2 ≡ e - 1) → LaysPart R1 e1 C D → Moved j D D' → j ≤ own_length s → LaysPart R2 e2 D' E → Moved two.y.measure.length D' E
+  right-moved p q l m i l' = moved-lines two.right (right-lines p q l m i l')
+
+  -- behind both parts
+  pub right-space : {R1 R2 : List Row} {e1 e2 j : ℕ} (n : ℕ) {D D' E : Code} → (R1 ≡ R) × (e1 ≡ start_at R (e - 1)) → (R2 ≡ R) × (e2 ≡ e - 1) → LaysPart R1 e1 C D → Moved j D D' → LaysPart R2 e2 D' E → n + j ≤ own_length s → Space n E
+  right-space n {D' = D'} p q l m l' i =
+      space-after n (space-after (two.y.measure.length + n) (left-space p l) m (omega arith)) (right-moved p q l m (omega arith) l') (omega arith)
+
+  pub gap-kept : {R1 R2 : List Row} {e1 e2 j a : ℕ} {D D' E : Code} → (R1 ≡ R) × (e1 ≡ start_at R (e - 1)) → (R2 ≡ R) × (e2 ≡ e - 1) → LaysPart R1 e1 C D → a ≡ D.next → Moved j D D' → LaysPart R2 e2 D' E → 1 ≤ j → j ≤ own_length s → (a < length E.instructions.now) × (a < length E.places.now)
+  gap-kept p q l at m l' some i = left_free at (gap-space p l) (omega arith) (moved-then m (right-moved p q l m i l'))
+
+  two-code : two_code s (get_or R (e - 1) blank) two.x.measure.length two.y.measure.length two.x.code two.y.code C.next ≡ h.0.code C.next
+  two-code =
+      ap (λ (z : Shape). two_code z (get_or R (e - 1) blank) two.x.measure.length two.y.measure.length two.x.code two.y.code C.next) (sym f)
+      ∙ sym (ap (λ (w : Part). w.code C.next) two.is)
+
+-- the parts one behind the other, and then the row's own line
+
+module _ (R : List Row) (e : ℕ) (C : Code) (h : HasRoomIn R e C) where
+  pair-lines : (f : shape_at R e ≡ shape.Pair) {R1 R2 : List Row} {e1 e2 : ℕ} {D E F : Code} → (R1 ≡ R) × (e1 ≡ start_at R (e - 1)) → (R2 ≡ R) × (e2 ≡ e - 1) → LaysPart R1 e1 C D → LaysPart R2 e2 D E → Lines (own (get_or R (e - 1) blank) ∷ []) E F → Lines (h.0.code C.next) C F
+  pair-lines f p q l l' o =
+      let T = two R e C h shape.Pair f refl in
+      let m = left-moved R e C h shape.Pair f refl p l in
+      relaid (ap (λ (b : ℕ). T.x.code C.next ++ (T.y.code b ++ own (get_or R (e - 1) blank) ∷ [])) m.at ∙ two-code R e C h shape.Pair f refl)
+      (lines-then (left-lines R e C h shape.Pair f refl p l) (lines-then (right-lines R e C h shape.Pair f refl p q l moved-none (omega arith) l') o))
+
+  joint-lines : (f : shape_at R e ≡ shape.Joint) {R1 R2 : List Row} {e1 e2 : ℕ} {D E : Code} → (R1 ≡ R) × (e1 ≡ start_at R (e - 1)) → (R2 ≡ R) × (e2 ≡ e - 1) → LaysPart R1 e1 C D → LaysPart R2 e2 D E → Lines (h.0.code C.next) C E
+  joint-lines f p q l l' =
+      let T = two R e C h shape.Joint f refl in
+      let m = left-moved R e C h shape.Joint f refl p l in
+      relaid (ap (λ (b : ℕ). T.x.code C.next ++ T.y.code b) m.at ∙ two-code R e C h shape.Joint f refl)
+      (lines-then (left-lines R e C h shape.Joint f refl p l) (right-lines R e C h shape.Joint f refl p q l moved-none (omega arith) l'))
+
+  if-lines : (f : shape_at R e ≡ shape.If) {R1 R2 : List Row} {e1 e2 j g : ℕ} {D D' E F : Code} → (R1 ≡ R) × (e1 ≡ start_at R (e - 1)) → (R2 ≡ R) × (e2 ≡ e - 1) → g ≡ (get_or R (e - 1) blank).place → LaysPart R1 e1 C D → j ≡ D.next → D' ≡ stepped D → LaysPart R2 e2 D' E → F ≡ with_line E j (JumpF E.next) g → Lines (h.0.code C.next) C F
+  if-lines f {g = g} {D' = D'} {E = E} p q at l i step l' put =
+      let T = two R e C h shape.If f refl in
+      let m = left-moved R e C h shape.If f refl p l in
+      let m' = moved-step step in
+      let m'' = right-moved R e C h shape.If f refl p q l m' (omega arith) l' in
+      let body : D'.next ≡ C.next + T.x.measure.length + 1 = omega (arith, m.at, m'.at) in
+      let to : E.next ≡ C.next + T.x.measure.length + 1 + T.y.measure.length = omega (arith, m''.at) in
       relaid (
-      ap (λ (y : Instruction). T.x.code a ++ (T.y.code m ++ (y, r.place) ∷ [])) o
-      ∙ ap (λ (z : Row). T.x.code a ++ (T.y.code m ++ own z ∷ [])) g
-      ∙ ap (λ (b : ℕ). T.x.code a ++ (T.y.code b ++ own (get_or R (e - 1) blank) ∷ [])) at
-      ∙ two-code shape.Pair f refl
+      ap (λ (b : ℕ). T.x.code C.next ++ (JumpF b, g) ∷ T.y.code D'.next) to
+      ∙ ap (λ (b : ℕ). T.x.code C.next ++ (JumpF (C.next + T.x.measure.length + 1 + T.y.measure.length), g) ∷ T.y.code b) body
+      ∙ ap (λ (b : ℕ). T.x.code C.next ++ (JumpF (C.next + T.x.measure.length + 1 + T.y.measure.length), b) ∷ T.y.code (C.next + T.x.measure.length + 1)) at
+      ∙ two-code R e C h shape.If f refl
       )
-      (laid_then l (laid_then l' (laid-put h r.place x I2 I3 P2 P3 t i j k)))
+      (lines-around (JumpF E.next) g (left-lines R e C h shape.If f refl p l) i step (right-lines R e C h shape.If f refl p q l m' (omega arith) l') put)
 
-  pub joint-laid : (f : shape_at R e ≡ shape.Joint) (n m h : ℕ) (I1 I2 : List Instruction) (P1 P2 : List ℕ) → n ≡ e - 1 - (two shape.Joint f refl).y.rows → Laid a ((two shape.Joint f refl).x.code a) I P m I1 P1 → Laid m ((two shape.Joint f refl).y.code m) I1 P1 h I2 P2 → Laid a (v.code a) I P h I2 P2
-  joint-laid f n m h I1 I2 P1 P2 d l l' =
-      let T = two shape.Joint f refl in
-      let at = (done R n a T.x (left-room shape.Joint f refl n d).stands l).at in
-      relaid (ap (λ (b : ℕ). T.x.code a ++ T.y.code b) at ∙ two-code shape.Joint f refl) (laid_then l l')
-
-  pub if-laid : (f : shape_at R e ≡ shape.If) (n m h q : ℕ) (I1 I2 I3 : List Instruction) (P1 P2 P3 : List ℕ) → q ≡ (get_or R (e - 1) blank).place → n ≡ e - 1 - (two shape.If f refl).y.rows → Laid a ((two shape.If f refl).x.code a) I P m I1 P1 → Laid (m + 1) ((two shape.If f refl).y.code (m + 1)) I1 P1 h I2 P2 → I3 ≡ set I2 m (JumpF h) → P3 ≡ set P2 m q → Laid a (v.code a) I P h I3 P3
-  if-laid f n m h q I1 I2 I3 P1 P2 P3 g d l l' i j =
-      let T = two shape.If f refl in
-      let B = both shape.If f refl n 1 m (m + 1) h I1 I2 P1 P2 d l refl l' in
-      let to : h ≡ a + T.x.measure.length + 1 + T.y.measure.length = omega (arith, B.first, B.second) in
+  while-lines : (f : shape_at R e ≡ shape.While) {R1 R2 : List Row} {e1 e2 j g : ℕ} {D D' E F G : Code} → (R1 ≡ R) × (e1 ≡ start_at R (e - 1)) → (R2 ≡ R) × (e2 ≡ e - 1) → g ≡ (get_or R (e - 1) blank).place → LaysPart R1 e1 C D → j ≡ D.next → D' ≡ stepped D → LaysPart R2 e2 D' E → F ≡ stepped (with_line E E.next (Jump C.next) g) → G ≡ with_line F j (JumpF F.next) g → Lines (h.0.code C.next) C G
+  while-lines f {g = g} {D' = D'} {E = E} {F = F} p q at l i step l' back put =
+      let T = two R e C h shape.While f refl in
+      let m = left-moved R e C h shape.While f refl p l in
+      let m' = moved-step step in
+      let m'' = right-moved R e C h shape.While f refl p q l m' (omega arith) l' in
+      let body : D'.next ≡ C.next + T.x.measure.length + 1 = omega (arith, m.at, m'.at) in
+      let to : F.next ≡ C.next + T.x.measure.length + 1 + T.y.measure.length + 1 = omega (arith, m''.at, ap (λ (X : Code). X.next) back) in
       relaid (
-      ap (λ (b : ℕ). T.x.code a ++ (JumpF b, q) ∷ T.y.code (m + 1)) to
-      ∙ ap (λ (b : ℕ). T.x.code a ++ (JumpF (a + T.x.measure.length + 1 + T.y.measure.length), q) ∷ T.y.code (b + 1)) B.first
-      ∙ ap (λ (b : ℕ). T.x.code a ++ (JumpF (a + T.x.measure.length + 1 + T.y.measure.length), b) ∷ T.y.code (a + T.x.measure.length + 1)) g
-      ∙ two-code shape.If f refl
+      ap (λ (b : ℕ). T.x.code C.next ++ (JumpF b, g) ∷ (T.y.code D'.next ++ (Jump C.next, g) ∷ [])) to
+      ∙ ap (λ (b : ℕ). T.x.code C.next ++ (JumpF (C.next + T.x.measure.length + 1 + T.y.measure.length + 1), g) ∷ (T.y.code b ++ (Jump C.next, g) ∷ [])) body
+      ∙ ap (λ (b : ℕ). T.x.code C.next ++ (JumpF (C.next + T.x.measure.length + 1 + T.y.measure.length + 1), b) ∷ (T.y.code (C.next + T.x.measure.length + 1) ++ (Jump C.next, b) ∷ [])) at
+      ∙ two-code R e C h shape.While f refl
       )
-      (laid-around q (JumpF h) l l' i j)
+      (lines-around (JumpF F.next) g (left-lines R e C h shape.While f refl p l) i step (lines-then (right-lines R e C h shape.While f refl p q l m' (omega arith) l') (lines-put _ _ back)) put)
 
-  pub while-laid : (f : shape_at R e ≡ shape.While) (n m b h q : ℕ) (I1 I2 I3 I4 : List Instruction) (P1 P2 P3 P4 : List ℕ) → q ≡ (get_or R (e - 1) blank).place → n ≡ e - 1 - (two shape.While f refl).y.rows → Laid a ((two shape.While f refl).x.code a) I P m I1 P1 → Laid (m + 1) ((two shape.While f refl).y.code (m + 1)) I1 P1 b I2 P2 → h ≡ b + 1 → I3 ≡ set I2 b (Jump a) → P3 ≡ set P2 b q → I4 ≡ set I3 m (JumpF h) → P4 ≡ set P3 m q → Laid a (v.code a) I P h I4 P4
-  while-laid f n m b h q I1 I2 I3 I4 P1 P2 P3 P4 g d l l' o i j i' j' =
-      let T = two shape.While f refl in
-      let B = both shape.While f refl n 1 m (m + 1) b I1 I2 P1 P2 d l refl l' in
-      let to : h ≡ a + T.x.measure.length + 1 + T.y.measure.length + 1 = omega (arith, B.first, B.second) in
+pub lays-pair : (R : List Row) (e : ℕ) (C : Code) (h : HasRoomIn R e C) (f : shape_at R e ≡ shape.Pair) {R1 R2 : List Row} {e1 e2 : ℕ} {D E F : Code} → (R1 ≡ R) × (e1 ≡ start_at R (e - 1)) → (R2 ≡ R) × (e2 ≡ e - 1) → LaysPart R1 e1 C D → LaysPart R2 e2 D E → Lines (own (get_or R (e - 1) blank) ∷ []) E F → LaysPart R e C F
+lays-pair R e C h f p q l l' o = lays-part R e C _ h (λ v r. pair-lines R e C (v, r) f p q l l' o)
+
+pub lays-joint : (R : List Row) (e : ℕ) (C : Code) (h : HasRoomIn R e C) (f : shape_at R e ≡ shape.Joint) {R1 R2 : List Row} {e1 e2 : ℕ} {D E : Code} → (R1 ≡ R) × (e1 ≡ start_at R (e - 1)) → (R2 ≡ R) × (e2 ≡ e - 1) → LaysPart R1 e1 C D → LaysPart R2 e2 D E → LaysPart R e C E
+lays-joint R e C h f p q l l' = lays-part R e C _ h (λ v r. joint-lines R e C (v, r) f p q l l')
+
+pub lays-if : (R : List Row) (e : ℕ) (C : Code) (h : HasRoomIn R e C) (f : shape_at R e ≡ shape.If) {R1 R2 : List Row} {e1 e2 j g : ℕ} {D D' E F : Code} → (R1 ≡ R) × (e1 ≡ start_at R (e - 1)) → (R2 ≡ R) × (e2 ≡ e - 1) → g ≡ (get_or R (e - 1) blank).place → LaysPart R1 e1 C D → j ≡ D.next → D' ≡ stepped D → LaysPart R2 e2 D' E → F ≡ with_line E j (JumpF E.next) g → LaysPart R e C F
+lays-if R e C h f p q at l i step l' put = lays-part R e C _ h (λ v r. if-lines R e C (v, r) f p q at l i step l' put)
+
+pub lays-while : (R : List Row) (e : ℕ) (C : Code) (h : HasRoomIn R e C) (f : shape_at R e ≡ shape.While) {R1 R2 : List Row} {e1 e2 j g : ℕ} {D D' E F G : Code} → (R1 ≡ R) × (e1 ≡ start_at R (e - 1)) → (R2 ≡ R) × (e2 ≡ e - 1) → g ≡ (get_or R (e - 1) blank).place → LaysPart R1 e1 C D → j ≡ D.next → D' ≡ stepped D → LaysPart R2 e2 D' E → F ≡ stepped (with_line E E.next (Jump C.next) g) → G ≡ with_line F j (JumpF F.next) g → LaysPart R e C G
+lays-while R e C h f p q at l i step l' back put = lays-part R e C _ h (λ v r. while-lines R e C (v, r) f p q at l i step l' back put)
+
+-- three parts, each of the later ones behind a jump
+
+module _ (R : List Row) (e : ℕ) (C : Code) (h : HasRoomIn R e C) (f : shape_at R e ≡ shape.IfElse) where
+  three : ThreeOf R e h.0
+  three = three-of R e h.0 h.1.stands (ap part_count f)
+
+  three-total : h.0.measure.length ≡ three.x.measure.length + three.y.measure.length + three.z.measure.length + 2
+  three-total = ap (λ (w : Part). w.measure.length) three.is
+
+  first-place : Room R (start_at R (start_at R (e - 1))) C.next (length C.instructions.now) (length C.places.now) three.x
+  first-place = let t = three-total in room-of {C = C} three.left (space-for {C = C} (space-of {C = C} h.1) (omega arith))
+
+  pub first-room : {R1 : List Row} {e1 : ℕ} → (R1 ≡ R) × (e1 ≡ start_at R (start_at R (e - 1))) → HasRoomIn R1 e1 C
+  first-room p = (three.x, room-at p first-place)
+
+  first-lines : {R1 : List Row} {e1 : ℕ} {D : Code} → (R1 ≡ R) × (e1 ≡ start_at R (start_at R (e - 1))) → LaysPart R1 e1 C D → Lines (three.x.code C.next) C D
+  first-lines p l = lines-of p l first-place
+
+  first-space : {R1 : List Row} {e1 : ℕ} {D : Code} → (R1 ≡ R) × (e1 ≡ start_at R (start_at R (e - 1))) → LaysPart R1 e1 C D → Space (three.y.measure.length + three.z.measure.length + 2) D
+  first-space p l = let t = three-total in space-after _ (space-of {C = C} h.1) (moved-lines three.left (first-lines p l)) (omega arith)
+
+  pub first-gap : {R1 : List Row} {e1 : ℕ} {D : Code} → (R1 ≡ R) × (e1 ≡ start_at R (start_at R (e - 1))) → LaysPart R1 e1 C D → Space 1 D
+  first-gap p l = space-for (first-space p l) (omega arith)
+
+  second-place : {R1 : List Row} {e1 : ℕ} {D D' : Code} → (R1 ≡ R) × (e1 ≡ start_at R (start_at R (e - 1))) → LaysPart R1 e1 C D → D' ≡ stepped D → Room R (start_at R (e - 1)) D'.next (length D'.instructions.now) (length D'.places.now) three.y
+  second-place {D' = D'} p l step = room-of {C = D'} three.middle (space-after _ (first-space p l) (moved-step step) (omega arith))
+
+  pub second_room : {R1 R2 : List Row} {e1 e2 : ℕ} {D D' : Code} → (R1 ≡ R) × (e1 ≡ start_at R (start_at R (e - 1))) → (R2 ≡ R) × (e2 ≡ start_at R (e - 1)) → LaysPart R1 e1 C D → D' ≡ stepped D → HasRoomIn R2 e2 D'
+  second_room p q l step = (three.y, room-at q (second-place p l step))
+
+  second-lines : {R1 R2 : List Row} {e1 e2 : ℕ} {D D' E : Code} → (R1 ≡ R) × (e1 ≡ start_at R (start_at R (e - 1))) → (R2 ≡ R) × (e2 ≡ start_at R (e - 1)) → LaysPart R1 e1 C D → D' ≡ stepped D → LaysPart R2 e2 D' E → Lines (three.y.code D'.next) D' E
+  second-lines p q l step l' = lines-of q l' (second-place p l step)
+
+  second-space : {R1 R2 : List Row} {e1 e2 : ℕ} {D D' E : Code} → (R1 ≡ R) × (e1 ≡ start_at R (start_at R (e - 1))) → (R2 ≡ R) × (e2 ≡ start_at R (e - 1)) → LaysPart R1 e1 C D → D' ≡ stepped D → LaysPart R2 e2 D' E → Space (three.z.measure.length + 1) E
+  second-space p q l step l' =
+      space-after _ (space-after (three.y.measure.length + three.z.measure.length + 1) (first-space p l) (moved-step step) (omega arith)) (moved-lines three.middle (second-lines p q l step l')) (omega arith)
+
+  pub second-gap : {R1 R2 : List Row} {e1 e2 : ℕ} {D D' E : Code} → (R1 ≡ R) × (e1 ≡ start_at R (start_at R (e - 1))) → (R2 ≡ R) × (e2 ≡ start_at R (e - 1)) → LaysPart R1 e1 C D → D' ≡ stepped D → LaysPart R2 e2 D' E → Space 1 E
+  second-gap p q l step l' = space-for (second-space p q l step l') (omega arith)
+
+  pub first-kept : {R1 R2 : List Row} {e1 e2 i : ℕ} {D D' E : Code} → (R1 ≡ R) × (e1 ≡ start_at R (start_at R (e - 1))) → (R2 ≡ R) × (e2 ≡ start_at R (e - 1)) → LaysPart R1 e1 C D → i ≡ D.next → D' ≡ stepped D → LaysPart R2 e2 D' E → (i < length E.instructions.now) × (i < length E.places.now)
+  first-kept p q l at step l' = left_free at (first-gap p l) (omega arith) (moved-then (moved-step step) (moved-lines three.middle (second-lines p q l step l')))
+
+  third-place : {R1 R2 : List Row} {e1 e2 : ℕ} {D D' E E' : Code} → (R1 ≡ R) × (e1 ≡ start_at R (start_at R (e - 1))) → (R2 ≡ R) × (e2 ≡ start_at R (e - 1)) → LaysPart R1 e1 C D → D' ≡ stepped D → LaysPart R2 e2 D' E → Moved 1 E E' → Room R (e - 1) E'.next (length E'.instructions.now) (length E'.places.now) three.z
+  third-place {E' = E'} p q l step l' m = room-of {C = E'} three.right (space-after _ (second-space p q l step l') m (omega arith))
+
+  pub third-room : {R1 R2 R3 : List Row} {e1 e2 e3 : ℕ} {D D' E E' : Code} → (R1 ≡ R) × (e1 ≡ start_at R (start_at R (e - 1))) → (R2 ≡ R) × (e2 ≡ start_at R (e - 1)) → (R3 ≡ R) × (e3 ≡ e - 1) → LaysPart R1 e1 C D → D' ≡ stepped D → LaysPart R2 e2 D' E → Moved 1 E E' → HasRoomIn R3 e3 E'
+  third-room p q o l step l' m = (three.z, room-at o (third-place p q l step l' m))
+
+  third-lines : {R1 R2 R3 : List Row} {e1 e2 e3 : ℕ} {D D' E E' F : Code} → (R1 ≡ R) × (e1 ≡ start_at R (start_at R (e - 1))) → (R2 ≡ R) × (e2 ≡ start_at R (e - 1)) → (R3 ≡ R) × (e3 ≡ e - 1) → LaysPart R1 e1 C D → D' ≡ stepped D → LaysPart R2 e2 D' E → Moved 1 E E' → LaysPart R3 e3 E' F → Lines (three.z.code E'.next) E' F
+  third-lines p q o l step l' m l'' = lines-of o l'' (third-place p q l step l' m)
+
+  pub third-space : {R1 R2 R3 : List Row} {e1 e2 e3 : ℕ} {D D' E E' F : Code} → (R1 ≡ R) × (e1 ≡ start_at R (start_at R (e - 1))) → (R2 ≡ R) × (e2 ≡ start_at R (e - 1)) → (R3 ≡ R) × (e3 ≡ e - 1) → LaysPart R1 e1 C D → D' ≡ stepped D → LaysPart R2 e2 D' E → Moved 1 E E' → LaysPart R3 e3 E' F → Space 0 F
+  third-space p q o l step l' m l'' =
+      space-after _ (space-after three.z.measure.length (second-space p q l step l') m (omega arith)) (moved-lines three.right (third-lines p q o l step l' m l'')) (omega arith)
+
+  pub second-kept : {R1 R2 R3 : List Row} {e1 e2 e3 j : ℕ} {D D' E E' F : Code} → (R1 ≡ R) × (e1 ≡ start_at R (start_at R (e - 1))) → (R2 ≡ R) × (e2 ≡ start_at R (e - 1)) → (R3 ≡ R) × (e3 ≡ e - 1) → LaysPart R1 e1 C D → D' ≡ stepped D → LaysPart R2 e2 D' E → j ≡ E.next → Moved 1 E E' → LaysPart R3 e3 E' F → (j < length F.instructions.now) × (j < length F.places.now)
+  second-kept p q o l step l' at m l'' = left_free at (second-gap p q l step l') (omega arith) (moved-then m (moved-lines three.right (third-lines p q o l step l' m l'')))
+
+  choose-lines : {R1 R2 R3 : List Row} {e1 e2 e3 i j g : ℕ} {D D' E E' K F G : Code} → (R1 ≡ R) × (e1 ≡ start_at R (start_at R (e - 1))) → (R2 ≡ R) × (e2 ≡ start_at R (e - 1)) → (R3 ≡ R) × (e3 ≡ e - 1) → g ≡ (get_or R (e - 1) blank).place → LaysPart R1 e1 C D → i ≡ D.next → D' ≡ stepped D → LaysPart R2 e2 D' E → j ≡ E.next → E' ≡ stepped E → K ≡ with_line E' i (JumpF E'.next) g → LaysPart R3 e3 K F → G ≡ with_line F j (Jump F.next) g → Lines (h.0.code C.next) C G
+  choose-lines {i = i} {j = j} {g = g} {D' = D'} {E = E} {E' = E'} {K = K} {F = F} p q o at l i-is step l' j-is step' over l'' put =
+      let T = three in
+      let d = moved-lines T.left (first-lines p l) in
+      let d' = moved-step step in
+      let x = second-lines p q l step l' in
+      let b = moved-lines T.middle x in
+      let b' = moved-step step' in
+      let k : K ≡ stepped (with_line E i (JumpF E'.next) g) = over ∙ ap (λ (X : Code). with_line X i (JumpF E'.next) g) step' in
+      let m : Moved 1 E K = record { at = ap (λ (X : Code). X.next) k; instructions = ap (λ (X : Code). length X.instructions.now) k ∙ length-set E.instructions.now i _; places = ap (λ (X : Code). length X.places.now) k ∙ length-set E.places.now i g } in
+      let z = third-lines p q o l step l' m l'' in
+      let t = moved-lines T.right z in
+      let a1 : D'.next ≡ C.next + T.x.measure.length + 1 = omega (arith, d.at, d'.at) in
+      let a2 : E'.next ≡ C.next + T.x.measure.length + 1 + T.y.measure.length + 1 = omega (arith, b.at, b'.at) in
+      let a2' : K.next ≡ C.next + T.x.measure.length + 1 + T.y.measure.length + 1 = omega (arith, b.at, m.at) in
+      let a3 : F.next ≡ C.next + T.x.measure.length + 1 + T.y.measure.length + 1 + T.z.measure.length = omega (arith, t.at) in
       relaid (
-      ap (λ (z : ℕ). T.x.code a ++ (JumpF z, q) ∷ (T.y.code (m + 1) ++ (Jump a, q) ∷ [])) to
-      ∙ ap (λ (z : ℕ). T.x.code a ++ (JumpF (a + T.x.measure.length + 1 + T.y.measure.length + 1), q) ∷ (T.y.code (z + 1) ++ (Jump a, q) ∷ [])) B.first
-      ∙ ap (λ (z : ℕ). T.x.code a ++ (JumpF (a + T.x.measure.length + 1 + T.y.measure.length + 1), z) ∷ (T.y.code (a + T.x.measure.length + 1) ++ (Jump a, z) ∷ [])) g
-      ∙ two-code shape.While f refl
+      append_assoc (T.x.code C.next) ((JumpF E'.next, g) ∷ T.y.code D'.next) ((Jump F.next, g) ∷ T.z.code K.next)
+      ∙ ap (λ (n : ℕ). T.x.code C.next ++ (JumpF n, g) ∷ (T.y.code D'.next ++ (Jump F.next, g) ∷ T.z.code K.next)) a2
+      ∙ ap (λ (n : ℕ). T.x.code C.next ++ (JumpF (C.next + T.x.measure.length + 1 + T.y.measure.length + 1), g) ∷ (T.y.code n ++ (Jump F.next, g) ∷ T.z.code K.next)) a1
+      ∙ ap (λ (n : ℕ). T.x.code C.next ++ (JumpF (C.next + T.x.measure.length + 1 + T.y.measure.length + 1), g) ∷ (T.y.code (C.next + T.x.measure.length + 1) ++ (Jump n, g) ∷ T.z.code K.next)) a3
+      ∙ ap (λ (n : ℕ). T.x.code C.next ++ (JumpF (C.next + T.x.measure.length + 1 + T.y.measure.length + 1), g) ∷ (T.y.code (C.next + T.x.measure.length + 1) ++ (Jump (C.next + T.x.measure.length + 1 + T.y.measure.length + 1 + T.z.measure.length), g) ∷ T.z.code n)) a2'
+      ∙ ap (λ (n : ℕ). T.x.code C.next ++ (JumpF (C.next + T.x.measure.length + 1 + T.y.measure.length + 1), n) ∷ (T.y.code (C.next + T.x.measure.length + 1) ++ (Jump (C.next + T.x.measure.length + 1 + T.y.measure.length + 1 + T.z.measure.length), n) ∷ T.z.code (C.next + T.x.measure.length + 1 + T.y.measure.length + 1))) at
+      ∙ sym (ap (λ (w : Part). w.code C.next) T.is)
       )
-      (laid-around q (JumpF h) l (laid_then l' (laid-put b q (Jump a) I2 I3 P2 P3 h o i j)) i' j')
+      (lines-around (Jump F.next) g (lines-around (JumpF E'.next) g (first-lines p l) i-is step x refl) j-is k z put)
 
-  -- three parts
-
-  module _ (f : shape_at R e ≡ shape.IfElse) where
-    pub three : ThreeOf R e v
-    three = three-of R e v room.stands (ap part_count f)
-
-    three-total : v.measure.length ≡ three.x.measure.length + three.y.measure.length + three.z.measure.length + 2
-    three-total = ap (λ (w : Part). w.measure.length) three.is
-
-    pub early-room : (n : ℕ) → n ≡ e - 1 - three.z.rows - three.y.rows → Room R n a (length I) (length P) three.x
-    early-room n g =
-        let t = three-total in
-        record {
-          stands = subst (λ (w : ℕ). Stands R w three.x) (sym g) three.left;
-          slots = omega (arith, room.slots);
-          places = omega (arith, room.places);
-          short = omega (arith, room.short);
-        }
-
-    pub late-stands : (n : ℕ) → n ≡ e - 1 - three.z.rows → Stands R n three.y
-    late-stands n g = subst (λ (w : ℕ). Stands R w three.y) (sym g) three.middle
-
-    pub late-room : (n n' m : ℕ) (I1 : List Instruction) (P1 : List ℕ) → n ≡ e - 1 - three.z.rows - three.y.rows → n' ≡ e - 1 - three.z.rows → Laid a (three.x.code a) I P m I1 P1 → Room R n' (m + 1) (length I1) (length P1) three.y
-    late-room n n' m I1 P1 g g' l =
-        let t = three-total in
-        let d = done R n a three.x (early-room n g).stands l in
-        record {
-          stands = late-stands n' g';
-          slots = omega (arith, room.slots, d.at, d.i);
-          places = omega (arith, room.places, d.at, d.p);
-          short = omega (arith, room.short, d.at);
-        }
-
-    pub last-room : (n n' m k : ℕ) (I1 I2 : List Instruction) (P1 P2 : List ℕ) → n ≡ e - 1 - three.z.rows - three.y.rows → n' ≡ e - 1 - three.z.rows → Laid a (three.x.code a) I P m I1 P1 → Laid (m + 1) (three.y.code (m + 1)) I1 P1 k I2 P2 → Room R (e - 1) (k + 1) (length I2) (length P2) three.z
-    last-room n n' m k I1 I2 P1 P2 g g' l l' =
-        let t = three-total in
-        let d = done R n a three.x (early-room n g).stands l in
-        let d' = done R n' (m + 1) three.y (late-stands n' g') l' in
-        record {
-          stands = three.right;
-          slots = omega (arith, room.slots, d.at, d.i, d'.at, d'.i);
-          places = omega (arith, room.places, d.at, d.p, d'.at, d'.p);
-          short = omega (arith, room.short, d.at, d'.at);
-        }
-
-    -- where all three parts are laid
-    pub record All (m k r : ℕ) (I3 : List Instruction) (P3 : List ℕ) : Type 0 where
-      pub first : m ≡ a + three.x.measure.length
-      pub second : k ≡ m + 1 + three.y.measure.length
-      pub third : r ≡ k + 1 + three.z.measure.length
-      pub slots : r ≤ length I3
-      pub places : r ≤ length P3
-      pub short : r ≤ 1024
-
-    pub all : (n n' m k r : ℕ) (I1 I2 I3 : List Instruction) (P1 P2 P3 : List ℕ) → n ≡ e - 1 - three.z.rows - three.y.rows → n' ≡ e - 1 - three.z.rows → Laid a (three.x.code a) I P m I1 P1 → Laid (m + 1) (three.y.code (m + 1)) I1 P1 k I2 P2 → Laid (k + 1) (three.z.code (k + 1)) I2 P2 r I3 P3 → All m k r I3 P3
-    all n n' m k r I1 I2 I3 P1 P2 P3 g g' l l' l'' =
-        let t = three-total in
-        let d = done R n a three.x (early-room n g).stands l in
-        let d' = done R n' (m + 1) three.y (late-stands n' g') l' in
-        let d'' = done R (e - 1) (k + 1) three.z three.right l'' in
-        record {
-          first = d.at;
-          second = d'.at;
-          third = d''.at;
-          slots = omega (arith, room.slots, d.at, d.i, d'.at, d'.i, d''.at, d''.i);
-          places = omega (arith, room.places, d.at, d.p, d'.at, d'.p, d''.at, d''.p);
-          short = omega (arith, room.short, d.at, d'.at, d''.at);
-        }
-
-    pub choose-laid : (n n' m k r s q : ℕ) (I1 I2 I3 I4 I5 : List Instruction) (P1 P2 P3 P4 P5 : List ℕ) → q ≡ (get_or R (e - 1) blank).place → n ≡ e - 1 - three.z.rows - three.y.rows → n' ≡ e - 1 - three.z.rows → Laid a (three.x.code a) I P m I1 P1 → Laid (m + 1) (three.y.code (m + 1)) I1 P1 k I2 P2 → Laid (k + 1) (three.z.code (k + 1)) I2 P2 r I3 P3 → s ≡ k + 1 → I4 ≡ set I3 k (Jump r) → P4 ≡ set P3 k q → I5 ≡ set I4 m (JumpF s) → P5 ≡ set P4 m q → Laid a (v.code a) I P r I5 P5
-    choose-laid n n' m k r s q I1 I2 I3 I4 I5 P1 P2 P3 P4 P5 g d d' l l' l'' h i j i' j' =
-        let T = three in
-        let A = all n n' m k r I1 I2 I3 P1 P2 P3 d d' l l' l'' in
-        let b1 : m + 1 ≡ a + T.x.measure.length + 1 = omega (arith, A.first) in
-        let b2 : k + 1 ≡ a + T.x.measure.length + 1 + T.y.measure.length + 1 = omega (arith, A.first, A.second) in
-        let b3 : r ≡ a + T.x.measure.length + 1 + T.y.measure.length + 1 + T.z.measure.length = omega (arith, A.first, A.second, A.third) in
-        relaid (
-        ap (λ (z : ℕ). T.x.code a ++ (JumpF z, q) ∷ (T.y.code (m + 1) ++ (Jump r, q) ∷ T.z.code (k + 1))) (h ∙ b2)
-        ∙ ap (λ (z : ℕ). T.x.code a ++ (JumpF (a + T.x.measure.length + 1 + T.y.measure.length + 1), q) ∷ (T.y.code z ++ (Jump r, q) ∷ T.z.code (k + 1))) b1
-        ∙ ap (λ (z : ℕ). T.x.code a ++ (JumpF (a + T.x.measure.length + 1 + T.y.measure.length + 1), q) ∷ (T.y.code (a + T.x.measure.length + 1) ++ (Jump z, q) ∷ T.z.code (k + 1))) b3
-        ∙ ap (λ (z : ℕ). T.x.code a ++ (JumpF (a + T.x.measure.length + 1 + T.y.measure.length + 1), q) ∷ (T.y.code (a + T.x.measure.length + 1) ++ (Jump (a + T.x.measure.length + 1 + T.y.measure.length + 1 + T.z.measure.length), q) ∷ T.z.code z)) b2
-        ∙ ap (λ (z : ℕ). T.x.code a ++ (JumpF (a + T.x.measure.length + 1 + T.y.measure.length + 1), z) ∷ (T.y.code (a + T.x.measure.length + 1) ++ (Jump (a + T.x.measure.length + 1 + T.y.measure.length + 1 + T.z.measure.length), z) ∷ T.z.code (a + T.x.measure.length + 1 + T.y.measure.length + 1))) g
-        ∙ sym (ap (λ (w : Part). w.code a) T.is)
-        )
-        (laid-around q (JumpF s) l (laid-around q (Jump r) l' l'' i j) i' j')
+pub lays-choose : (R : List Row) (e : ℕ) (C : Code) (h : HasRoomIn R e C) (f : shape_at R e ≡ shape.IfElse) {R1 R2 R3 : List Row} {e1 e2 e3 i j g : ℕ} {D D' E E' K F G : Code} → (R1 ≡ R) × (e1 ≡ start_at R (start_at R (e - 1))) → (R2 ≡ R) × (e2 ≡ start_at R (e - 1)) → (R3 ≡ R) × (e3 ≡ e - 1) → g ≡ (get_or R (e - 1) blank).place → LaysPart R1 e1 C D → i ≡ D.next → D' ≡ stepped D → LaysPart R2 e2 D' E → j ≡ E.next → E' ≡ stepped E → K ≡ with_line E' i (JumpF E'.next) g → LaysPart R3 e3 K F → G ≡ with_line F j (Jump F.next) g → LaysPart R e C G
+lays-choose R e C h f p q o at l i step l' j step' over l'' put =
+    lays-part R e C _ h (λ v r. choose-lines R e C (v, r) f p q o at l i step l' j step' over l'' put)
 
 -- the shape that the code looks at is what stands there
 pub shaped : (R : List Row) (e : ℕ) {r : Row} {s z : Shape} → r ≡ get_or R (e - 1) blank → s ≡ shape_of r.kind → s ≡ z → shape_at R e ≡ z

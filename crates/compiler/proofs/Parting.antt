@@ -1,5 +1,7 @@
 -- The parts of what stands before an end: where each of them ends, how large they are, and how long their code is.
-use Rattle.std.proofs.Common.{◌≡◌, ℕ, suc, ◌+◌, ◌-◌, ◌*◌, ◌≤◌, List, length, get_or, sym, refl, ap, ◌∙◌, arith}
+use Rattle.std.proofs.Common.{◌≡◌, ℕ, suc, ◌+◌, ◌-◌, ◌*◌, ◌≤◌, List, length, get_or, sym, refl, ap, ◌∙◌, subst, arith}
+use Rattle.std.proofs.Math.Logic.{∥∥₁_elim, ∥∥₁_map}
+use Rattle.std.specs.Coded.{×_prop, le_prop}
 use Rattle.std.proofs.lemmas.List.{length-append}
 use Rattle.tables.specs.declared.row.Row.{Row}
 use Rattle.tables.specs.Rows.{blank}
@@ -8,7 +10,7 @@ use Rattle.compiler.specs.declared.shape.Shape.TheVariants as shape
 use Rattle.compiler.specs.Code.{Line}
 use Rattle.compiler.specs.declared.measure.Measure.{Measure}
 use Rattle.compiler.specs.Measures.{shape_of, part_count, own_length, two_depth, one_measure, two_measure, three_measure}
-use Rattle.compiler.specs.Parts.{Part, zero_part, one_code, one_part, two_code, two_part, three_code, three_part, Own, Stands, zero-stands, one-stands, two-stands, three-stands, shape_at}
+use Rattle.compiler.specs.Parts.{Part, zero_part, one_code, one_part, two_code, two_part, three_code, three_part, Own, Stands, zero-stands, one-stands, two-stands, three-stands, IsPart, start_at, shape_at}
 
 -- what the last row of a part says
 
@@ -34,6 +36,14 @@ last R e v (zero-stands {r = r} o) = last_of R e _ _ r v o refl (omega arith)
 last R e v (one-stands {r = r} o f) = last_of R e _ _ r v o refl (omega arith)
 last R e v (two-stands {r = r} o f g) = last_of R e _ _ r v o refl (omega arith)
 last R e v (three-stands {r = r} o f g h) = last_of R e _ _ r v o refl (omega arith)
+
+-- where a part begins is where the one before it ends
+
+starts : (R : List Row) (e : ℕ) (v : Part) → Stands R e v → e - v.rows ≡ start_at R e
+starts R e v s = ap (λ (n : ℕ). e - n) (sym (last R e v s).size)
+
+starting : (R : List Row) (e : ℕ) (v w : Part) → Stands R e v → Stands R (e - v.rows) w → Stands R (start_at R e) w
+starting R e v w s = subst (λ (n : ℕ). Stands R n w) (starts R e v s)
 
 -- parts, by how many there are
 
@@ -61,7 +71,7 @@ one_of R e v (three-stands {r = r} o f g h) k = absurd (omega (arith, parts_are 
 pub record TwoOf (R : List Row) (e : ℕ) (v : Part) : Type 0 where
   pub x : Part
   pub y : Part
-  pub left : Stands R (e - 1 - y.rows) x
+  pub left : Stands R (start_at R (e - 1)) x
   pub right : Stands R (e - 1) y
   pub is : v ≡ two_part (shape_at R e) (get_or R (e - 1) blank) x y
 
@@ -69,15 +79,15 @@ pub two-of : (R : List Row) (e : ℕ) (v : Part) → Stands R e v → part_count
 two-of R e v (zero-stands {r = r} o) k = absurd (omega (arith, parts_are R e _ _ r o))
 two-of R e v (one-stands {r = r} o f) k = absurd (omega (arith, parts_are R e _ _ r o))
 two-of R e v (two-stands {x = x} {y = y} o f g) k =
-    record { x = x; y = y; left = f; right = g; is = ap (λ (z : Row). two_part (shape_of z.kind) z x y) (sym o.row) }
+    record { x = x; y = y; left = starting R (e - 1) y x g f; right = g; is = ap (λ (z : Row). two_part (shape_of z.kind) z x y) (sym o.row) }
 two-of R e v (three-stands {r = r} o f g h) k = absurd (omega (arith, parts_are R e _ _ r o))
 
 pub record ThreeOf (R : List Row) (e : ℕ) (v : Part) : Type 0 where
   pub x : Part
   pub y : Part
   pub z : Part
-  pub left : Stands R (e - 1 - z.rows - y.rows) x
-  pub middle : Stands R (e - 1 - z.rows) y
+  pub left : Stands R (start_at R (start_at R (e - 1))) x
+  pub middle : Stands R (start_at R (e - 1)) y
   pub right : Stands R (e - 1) z
   pub is : v ≡ three_part (get_or R (e - 1) blank) x y z
 
@@ -86,7 +96,9 @@ three-of R e v (zero-stands {r = r} o) k = absurd (omega (arith, parts_are R e _
 three-of R e v (one-stands {r = r} o f) k = absurd (omega (arith, parts_are R e _ _ r o))
 three-of R e v (two-stands {r = r} o f g) k = absurd (omega (arith, parts_are R e _ _ r o))
 three-of R e v (three-stands {x = x} {y = y} {z = z} o f g h) k =
-    record { x = x; y = y; z = z; left = f; middle = g; right = h; is = ap (λ (w : Row). three_part w x y z) (sym o.row) }
+    let m = starting R (e - 1) z y h g in
+    let l = subst (λ (n : ℕ). Stands R (n - y.rows) x) (starts R (e - 1) z h) f in
+    record { x = x; y = y; z = z; left = starting R (start_at R (e - 1)) y x m l; middle = m; right = h; is = ap (λ (w : Row). three_part w x y z) (sym o.row) }
 
 -- no row adds more than two instructions
 
@@ -162,33 +174,36 @@ long R e v (two-stands {r = r} {x = x} {y = y} o f g) a =
 long R e v (three-stands {r = r} {x = x} {y = y} {z = z} o f g h) a =
     three-long r _ _ _ x.code y.code z.code (long R (e - 1 - z.rows - y.rows) x f) (long R (e - 1 - z.rows) y g) (long R (e - 1) z h) a
 
--- what the code looks at is what stands there
-pub counted : (R : List Row) (e k : ℕ) {r : Row} {s : Shape} {n : ℕ} → r ≡ get_or R (e - 1) blank → s ≡ shape_of r.kind → n ≡ part_count s → n ≡ k → part_count (shape_at R e) ≡ k
-counted R e k f g h i =
-    ap (λ (x : Row). part_count (shape_of x.kind)) (sym f) ∙ ap part_count (sym g) ∙ sym h ∙ i
+-- what is known of a node, whatever part it is
 
-at-most-three : (s : Shape) → part_count s ≤ 3
-at-most-three shape.Leaf = omega arith
-at-most-three shape.Not = omega arith
-at-most-three shape.Pair = omega arith
-at-most-three shape.Set = omega arith
-at-most-three shape.If = omega arith
-at-most-three shape.IfElse = omega arith
-at-most-three shape.While = omega arith
-at-most-three shape.Joint = omega arith
+pub some_row : (R : List Row) (e : ℕ) → IsPart R e → 1 ≤ e
+some_row R e h = ∥∥₁_elim h le_prop (λ h. (last R e h.0 h.1).some)
 
-three-left : (s : Shape) (n : ℕ) → n ≡ part_count s → (n ≡ 0 → ⊥) → (n ≡ 1 → ⊥) → (n ≡ 2 → ⊥) → n ≡ 3
-three-left s n e f g h = let k = at-most-three s in omega arith
+pub fits : (R : List Row) (e : ℕ) → IsPart R e → (get_or R (e - 1) blank).size ≤ e
+fits R e h = ∥∥₁_elim h le_prop (λ h. let l = last R e h.0 h.1 in omega (arith, l.size, l.fits))
 
-pub one_at : (R : List Row) (e : ℕ) (v : Part) {r : Row} {s : Shape} {n : ℕ} → Stands R e v → r ≡ get_or R (e - 1) blank → s ≡ shape_of r.kind → n ≡ part_count s → n ≡ 1 → OneOf R e v
-one_at R e v st f g h i = one_of R e v st (counted R e 1 f g h i)
+last_of_some : (R : List Row) (e : ℕ) (v : Part) → Stands R e v → 1 ≤ part_count (shape_at R e) → (w : Part) × Stands R (e - 1) w
+last_of_some R e v (zero-stands {r = r} o) k = absurd (omega (arith, parts_are R e _ _ r o))
+last_of_some R e v (one-stands {x = x} o f) k = (x, f)
+last_of_some R e v (two-stands {y = y} o f g) k = (y, g)
+last_of_some R e v (three-stands {z = z} o f g h) k = (z, h)
 
-pub two_at : (R : List Row) (e : ℕ) (v : Part) {r : Row} {s : Shape} {n : ℕ} → Stands R e v → r ≡ get_or R (e - 1) blank → s ≡ shape_of r.kind → n ≡ part_count s → n ≡ 2 → TwoOf R e v
-two_at R e v st f g h i = two-of R e v st (counted R e 2 f g h i)
+pub last-part : (R : List Row) (e : ℕ) → IsPart R e → 1 ≤ part_count (shape_at R e) → IsPart R (e - 1)
+last-part R e h k = ∥∥₁_map h (λ h. last_of_some R e h.0 h.1 k)
 
--- where there are not none, one or two
-pub three-at : (R : List Row) (e : ℕ) (v : Part) {r : Row} {s : Shape} {n : ℕ} → Stands R e v → r ≡ get_or R (e - 1) blank → s ≡ shape_of r.kind → n ≡ part_count s → (n ≡ 0 → ⊥) → (n ≡ 1 → ⊥) → (n ≡ 2 → ⊥) → ThreeOf R e v
-three-at R e v {r} {s} {n} st f g h i j k = three-of R e v st (counted R e 3 f g h (three-left s n h i j k))
+pub left-part : (R : List Row) (e : ℕ) → IsPart R e → part_count (shape_at R e) ≡ 2 → IsPart R (start_at R (e - 1))
+left-part R e h k = ∥∥₁_map h (λ h. let O = two-of R e h.0 h.1 k in (O.x, O.left))
+
+pub middle-part : (R : List Row) (e : ℕ) → IsPart R e → part_count (shape_at R e) ≡ 3 → IsPart R (start_at R (e - 1))
+middle-part R e h k = ∥∥₁_map h (λ h. let O = three-of R e h.0 h.1 k in (O.y, O.middle))
+
+pub first-part : (R : List Row) (e : ℕ) → IsPart R e → part_count (shape_at R e) ≡ 3 → IsPart R (start_at R (start_at R (e - 1)))
+first-part R e h k = ∥∥₁_map h (λ h. let O = three-of R e h.0 h.1 k in (O.x, O.left))
+
+-- where a node says that it stands
+pub standing-at : {R R' : List Row} {e e' : ℕ} {v : Part} → (R' ≡ R) × (e' ≡ e) → Stands R e v → Stands R' e' v
+standing-at {R} {R'} {e} {e'} {v} h s =
+    subst (λ (xs : List Row). Stands xs e' v) (sym h.0) (subst (λ (n : ℕ). Stands R n v) (sym h.1) s)
 
 pub measured-one : (R : List Row) (e : ℕ) (v : Part) (r : Row) (s : Shape) (m x : Measure) (O : OneOf R e v) → r ≡ get_or R (e - 1) blank → s ≡ shape_of r.kind → x ≡ O.x.measure → m ≡ one_measure s r.place x → m ≡ v.measure
 measured-one R e v r s m x O f g h i =
@@ -213,17 +228,19 @@ measured-three R e v r m x y z O f g h i j =
     ∙ ap (λ (w : Row). three_measure w.place O.x.measure O.y.measure O.z.measure) f
     ∙ sym (ap (λ (w : Part). w.measure) O.is)
 
--- what was measured of a part in at most 2,048 rows is small
+-- what was measured of a node in at most 2,048 rows is small
 pub record Small (m : Measure) : Type 0 where
   pub length : m.length ≤ 4096
   pub depth : m.depth ≤ 4096
 
-pub small : (R : List Row) (e : ℕ) (v : Part) (m : Measure) → Stands R e v → length R ≤ 2048 → m ≡ v.measure → Small m
-small R e v m s few f =
-    let l = last R e v s in
-    let fl = ap (λ (z : Measure). z.length) f in
-    let fd = ap (λ (z : Measure). z.depth) f in
-    record {
-      length = omega (arith, short R e v s, l.fits, l.within, fl);
-      depth = omega (arith, shallow R e v s, l.fits, l.within, fd);
-    }
+pub small : (R : List Row) (e : ℕ) (m : Measure) → IsPart R e → length R ≤ 2048 → ((v : Part) → Stands R e v → m ≡ v.measure) → Small m
+small R e m h few f =
+    let both : (m.length ≤ 4096) × (m.depth ≤ 4096) = ∥∥₁_elim h (×_prop le_prop le_prop) (λ h. small_of h.0 h.1) in
+    record { length = both.0; depth = both.1 }
+  where
+    small_of : (v : Part) → Stands R e v → (m.length ≤ 4096) × (m.depth ≤ 4096)
+    small_of v s =
+        let l = last R e v s in
+        let fl = ap (λ (z : Measure). z.length) (f v s) in
+        let fd = ap (λ (z : Measure). z.depth) (f v s) in
+        (omega (arith, short R e v s, l.fits, l.within, fl), omega (arith, shallow R e v s, l.fits, l.within, fd))

@@ -112,6 +112,14 @@ pub data Stands (R : List Row) : ℕ → Part → Type 0 where
   two-stands : {end : ℕ} {r : Row} {x y : Part} → Own R end r (suc (x.rows + y.rows)) 2 → Stands R (end - 1 - y.rows) x → Stands R (end - 1) y → Stands R end (two_part (shape_of r.kind) r x y)
   three-stands : {end : ℕ} {r : Row} {x y z : Part} → Own R end r (suc (x.rows + (y.rows + z.rows))) 3 → Stands R (end - 1 - z.rows - y.rows) x → Stands R (end - 1 - z.rows) y → Stands R (end - 1) z → Stands R end (three_part r x y z)
 
+-- a part stands before `end`
+abbrev pub IsPart : List Row → ℕ → Type 0
+IsPart R end = ∥ ((v : Part) × Stands R end v) ∥₁
+
+-- where the part begins that stands before `end`
+abbrev pub start_at : List Row → ℕ → ℕ
+start_at R end = end - (slice_index_or R (end - 1) blank).size
+
 abbrev pub shape_at : List Row → ℕ → Shape
 shape_at R end = shape_of (slice_index_or R (end - 1) blank).kind
 

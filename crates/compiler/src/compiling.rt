@@ -3,8 +3,8 @@ ghost use Rattle.std.specs.Prelude.{◌≡◌, min, length};
 ghost use Rattle.compiler.specs.Compiles.{compiled};
 ghost use Rattle.compiler.specs.Laws.{LaysCode, OneCode, Takes};
 
-use crate::lay::lay;
-use crate::refusal::refused;
+use crate::lay::Code;
+use crate::refusal::admit;
 use faults::Fault;
 use instructions::Instruction;
 use tables::Row;
@@ -22,8 +22,12 @@ pub fn compile(
     ensures one_code { OneCode rows.now result instructions.new }
 {
     let slots = instructions.len().min(places.len());
-    match refused(rows, points, slots) {
-        Some(fault) => Err(fault),
-        None => Ok(lay(rows, rows.len(), 0, instructions, places)),
-    }
+    let sheet = admit(rows, points, slots)?;
+    let mut code = Code {
+        instructions,
+        places,
+        next: 0,
+    };
+    code.lay(sheet);
+    Ok(code.next)
 }

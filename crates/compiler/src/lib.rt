@@ -5,8 +5,8 @@ mod compiling;
 mod lay;
 mod measure;
 mod measuring;
+mod node;
 mod operation;
-mod part;
 mod refusal;
 mod shape;
 

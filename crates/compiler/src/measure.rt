@@ -1,6 +1,5 @@
 // How long a tree's code is, how deep it makes the stack, and which of its rows is the first that is too deep.
 ghost use Rattle.std.specs.Prelude.{◌≡◌, ◌≤◌};
-ghost use Rattle.compiler.specs.Depths.{first_of};
 ghost use Rattle.compiler.specs.Measures.{judged, leaf_measure, one_measure, two_depth, two_measure, three_measure};
 
 use crate::shape::Shape;
@@ -15,51 +14,64 @@ pub struct Measure {
     pub deep: Option<u16>,
 }
 
-pub(crate) fn leaf() -> Measure
-    ensures { result ≡ leaf_measure }
-{
-    Measure {
-        length: 1,
-        depth: 1,
-        deep: None,
+impl Measure {
+    pub(crate) fn leaf() -> Measure
+        ensures { result ≡ leaf_measure }
+    {
+        Measure {
+            length: 1,
+            depth: 1,
+            deep: None,
+        }
     }
-}
 
-pub(crate) fn of_one(shape: Shape, place: u16, part: Measure) -> Measure
-    requires { part.length ≤ 4096 }
-    ensures { result ≡ one_measure shape place part }
-{
-    judge(
-        place,
-        part.length + shape.own_length(),
-        part.depth,
-        part.deep,
-    )
-}
+    pub(crate) fn of_one(shape: Shape, place: u16, part: Measure) -> Measure
+        requires { part.length ≤ 4096 }
+        ensures { result ≡ one_measure shape place part }
+    {
+        Measure::judged(
+            place,
+            part.length + shape.own_length(),
+            part.depth,
+            part.deep,
+        )
+    }
 
-pub(crate) fn of_two(shape: Shape, place: u16, left: Measure, right: Measure) -> Measure
-    requires lengths { (left.length ≤ 4096) × (right.length ≤ 4096) }
-    requires depth { right.depth ≤ 4096 }
-    ensures { result ≡ two_measure shape place left right }
-{
-    judge(
-        place,
-        left.length + right.length + shape.own_length(),
-        depth_of_two(shape, left.depth, right.depth),
-        first(left.deep, right.deep),
-    )
-}
+    pub(crate) fn of_two(shape: Shape, place: u16, left: Measure, right: Measure) -> Measure
+        requires lengths { (left.length ≤ 4096) × (right.length ≤ 4096) }
+        requires depth { right.depth ≤ 4096 }
+        ensures { result ≡ two_measure shape place left right }
+    {
+        Measure::judged(
+            place,
+            left.length + right.length + shape.own_length(),
+            depth_of_two(shape, left.depth, right.depth),
+            left.deep.or(right.deep),
+        )
+    }
 
-pub(crate) fn of_three(place: u16, one: Measure, two: Measure, three: Measure) -> Measure
-    requires { (one.length ≤ 4096) × ((two.length ≤ 4096) × (three.length ≤ 4096)) }
-    ensures { result ≡ three_measure place one two three }
-{
-    judge(
-        place,
-        one.length + two.length + three.length + 2,
-        one.depth.max(two.depth.max(three.depth)),
-        first(one.deep, first(two.deep, three.deep)),
-    )
+    pub(crate) fn of_three(place: u16, one: Measure, two: Measure, three: Measure) -> Measure
+        requires { (one.length ≤ 4096) × ((two.length ≤ 4096) × (three.length ≤ 4096)) }
+        ensures { result ≡ three_measure place one two three }
+    {
+        Measure::judged(
+            place,
+            one.length + two.length + three.length + Shape::IfElse.own_length(),
+            one.depth.max(two.depth).max(three.depth),
+            one.deep.or(two.deep).or(three.deep),
+        )
+    }
+
+    // A row comes after the rows of its parts, so one of them that is too deep is the first.
+    fn judged(place: u16, length: u32, depth: u32, before: Option<u16>) -> Measure
+        ensures { result ≡ judged place length depth before }
+    {
+        Measure {
+            length,
+            depth,
+            deep: before.or((depth > MOST_DEPTH).then_some(place)),
+        }
+    }
 }
 
 // Only where both parts are values is the second worked out above the first one's.
@@ -70,30 +82,5 @@ fn depth_of_two(shape: Shape, left: u32, right: u32) -> u32
     match shape {
         Shape::Pair => left.max(right + 1),
         _ => left.max(right),
-    }
-}
-
-// A row comes after the rows of its parts, so one of them that is too deep is the first.
-fn judge(place: u16, length: u32, depth: u32, before: Option<u16>) -> Measure
-    ensures { result ≡ judged place length depth before }
-{
-    let own = if depth > MOST_DEPTH {
-        Some(place)
-    } else {
-        None
-    };
-    Measure {
-        length,
-        depth,
-        deep: first(before, own),
-    }
-}
-
-fn first(one: Option<u16>, other: Option<u16>) -> Option<u16>
-    ensures { result ≡ first_of one other }
-{
-    match one {
-        Some(place) => Some(place),
-        None => other,
     }
 }

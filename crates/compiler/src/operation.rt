@@ -1,6 +1,5 @@
 // The instruction of a row of sums or conditions.
 ghost use Rattle.std.specs.Prelude.{◌≡◌};
-ghost use Rattle.compiler.specs.Sheets.{comparison_of};
 ghost use Rattle.compiler.specs.Parts.{point_of, operation};
 
 use arith::Comparison;
@@ -17,7 +16,7 @@ pub(crate) fn instruction_of(row: Row) -> Instruction
         Kind::Sub => Instruction::Sub,
         Kind::Mul => Instruction::Mul,
         Kind::Div => Instruction::Div,
-        Kind::Compare => Instruction::Cmp(comparison(row.value)),
+        Kind::Compare => Instruction::Cmp(row.comparison().unwrap_or(Comparison::NotEqual)),
         Kind::Not => Instruction::Inv,
         Kind::And => Instruction::And,
         Kind::Or => Instruction::Or,
@@ -29,22 +28,8 @@ pub(crate) fn instruction_of(row: Row) -> Instruction
 pub(crate) fn point_of(row: Row) -> u8
     ensures { result ≡ point_of row.value }
 {
-    if row.value >= 0 && row.value < 64 {
-        row.value as u8
-    } else {
-        0
-    }
-}
-
-fn comparison(value: i32) -> Comparison
-    ensures { result ≡ comparison_of value }
-{
-    match value {
-        0 => Comparison::Less,
-        1 => Comparison::LessOrEqual,
-        2 => Comparison::Greater,
-        3 => Comparison::GreaterOrEqual,
-        4 => Comparison::Equal,
-        _ => Comparison::NotEqual,
+    match u8::try_from(row.value) {
+        Ok(point) if point < 64 => point,
+        _ => 0,
     }
 }

@@ -1,6 +1,6 @@
 // How a row's code is made of its parts' code: the sixteen kinds come down to eight shapes.
 ghost use Rattle.std.specs.Prelude.{◌≡◌};
-ghost use Rattle.compiler.specs.Measures.{shape_of, part_count, own_length};
+ghost use Rattle.compiler.specs.Measures.{shape_of, own_length};
 
 use tables::Kind;
 
@@ -32,17 +32,6 @@ impl Shape {
             Kind::IfElse => Shape::IfElse,
             Kind::While => Shape::While,
             Kind::Joint => Shape::Joint,
-        }
-    }
-
-    pub(crate) fn part_count(self) -> u8
-        ensures { result ≡ part_count self }
-    {
-        match self {
-            Shape::Leaf => 0,
-            Shape::Not | Shape::Set => 1,
-            Shape::Pair | Shape::If | Shape::While | Shape::Joint => 2,
-            Shape::IfElse => 3,
         }
     }
 

@@ -1,4 +1,4 @@
 use Rattle.compiler.proofs.measuring.+measure.Given as goal
 
 abbrev pub decreases-measure : goal.decreases-measure
-decreases-measure l = l.end
+decreases-measure l = l.node.end

@@ -1,0 +1,15 @@
+-- The parts are nodes too.
+use Rattle.std.proofs.Common.{arith}
+use Rattle.compiler.proofs.Parting.{last-part, middle-part, first-part}
+use Rattle.compiler.proofs.node.Node.three.Goals as goal
+
+pub last-third-requires : goal.last-third-requires
+last-third-requires c = last-part c.args.self.rows.now c.args.self.end c.args.self.stands (omega arith)
+
+pub before-second-requires : goal.before-second-requires
+before-second-requires c = rw c.last-third.ensures.0 (rw c.last-third.ensures.1 (middle-part c.args.self.rows.now c.args.self.end c.args.self.stands c.requires))
+
+pub before-requires : goal.before-requires
+before-requires c =
+    rw (c.before-second.ensures.0, c.before-second.ensures.1, c.last-third.ensures.0, c.last-third.ensures.1)
+    (first-part c.args.self.rows.now c.args.self.end c.args.self.stands c.requires)
