@@ -18,7 +18,6 @@ impl Reader<'_> {
     pub(crate) fn sheet(&mut self) -> Result<(), Refusal>
         ensures reads { Reads SheetAnswer self.old self.new result }
         ensures same { held self.new ≡ held self.old }
-        ensures loan { self.new.rows.ghost_name ≡ self.old.rows.ghost_name }
     {
         let first = self.progress.count;
         self.command()?;
@@ -55,9 +54,7 @@ impl Reader<'_> {
     }
 
     // `name = sum ;`, the name just seen.
-    fn set_command(&mut self, seen: Seen,
-        point: usize,
-    ) -> Result<(), Refusal>
+    fn set_command(&mut self, seen: Seen, point: usize) -> Result<(), Refusal>
         requires { Begins (command.Set point) (lines_of self.old.names.text.now) self.old.text.now self.old.progress seen }
         ensures reads { Reads CommandAnswer self.old self.new result }
         ensures same { held self.new ≡ held self.old }
@@ -73,8 +70,7 @@ impl Reader<'_> {
 
     // `if ( condition ) block`, perhaps with `else block`; the word `if` just seen.
     #[cycle(block_command_if_command_sheet_while_command)]
-    fn if_command(&mut self, seen: Seen,
-    ) -> Result<(), Refusal>
+    fn if_command(&mut self, seen: Seen) -> Result<(), Refusal>
         requires { Begins command.If (lines_of self.old.names.text.now) self.old.text.now self.old.progress seen }
         ensures reads { Reads CommandAnswer self.old self.new result }
         ensures same { held self.new ≡ held self.old }
@@ -96,8 +92,7 @@ impl Reader<'_> {
 
     // `while ( condition ) block`, the word just seen.
     #[cycle(block_command_if_command_sheet_while_command)]
-    fn while_command(&mut self, seen: Seen,
-    ) -> Result<(), Refusal>
+    fn while_command(&mut self, seen: Seen) -> Result<(), Refusal>
         requires { Begins command.While (lines_of self.old.names.text.now) self.old.text.now self.old.progress seen }
         ensures reads { Reads CommandAnswer self.old self.new result }
         ensures same { held self.new ≡ held self.old }

@@ -98,7 +98,8 @@ impl Reader<'_> {
         };
         self.progress.pass(seen);
         self.sum()?;
-        self.tell(Kind::Compare,
+        self.tell(
+            Kind::Compare,
             i32::from(comparison.number()),
             first,
             seen.place,

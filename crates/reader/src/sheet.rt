@@ -4,7 +4,7 @@ ghost use Rattle.names.specs.Lines.{lines_of};
 ghost use Rattle.grammar.specs.Lexemes.{lexemes};
 ghost use Rattle.grammar.specs.Machine.{run, start};
 ghost use Rattle.reader.specs.Laws.{ReadsExactly};
-ghost use Rattle.reader.specs.Reading.{reading};
+ghost use Rattle.reader.specs.Reading.{reading, blanks};
 ghost use Rattle.reader.specs.Wholes.{UnderAnswer, AllAnswer};
 
 use crate::progress::Progress;
@@ -24,16 +24,16 @@ pub fn read(list: &[u8], sheet: &[u8], rows: &mut [Row]) -> Result<usize, Fault>
     ensures exactly { ReadsExactly list.now sheet.now rows.old result rows.new }
 {
     let names = NameList::read(list)?;
-    rows.fill(Row::blank());
+    clear(rows);
     let needed = match read_under(names, sheet, rows) {
         Ok(needed) => needed,
         Err(fault) => {
-            rows.fill(Row::blank());
+            clear(rows);
             return Err(fault);
         }
     };
     if needed > MOST_ROWS || needed > rows.len() {
-        rows.fill(Row::blank());
+        clear(rows);
         return Err(Fault {
             layer: Layer::Table(TableCause::TooFewSlots),
             figure: needed as u64,
@@ -75,4 +75,10 @@ fn read_all(names: NameList, sheet: &[u8], rows: &mut [Row]) -> Result<usize, Re
         return Err(end.refusal());
     };
     Ok(reader.progress.count)
+}
+
+fn clear(rows: &mut [Row])
+    ensures { rows.new ≡ blanks rows.old }
+{
+    rows.fill(Row::blank());
 }

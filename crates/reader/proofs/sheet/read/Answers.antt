@@ -46,9 +46,9 @@ returns-in_err-names c =
 pub returns-in-Err : goal.returns-in-Err
 returns-in-Err c =
     let old : List Row = c.args.rows.now in
-    let long : length c.read_under.new.rows ≡ length old = c.read_under.auto.rows ∙ c.fill.auto.self in
-    let e : (Err c.in-Err.fault, c.fill-in-Err.new.self) ≡ reading c.args.list.now c.args.sheet.now old =
-    ap (λ rs. (Err c.in-Err.fault, rs)) (c.fill-in-Err.ensures.after (λ r e. e) ∙ ap (λ b. replicate (length c.read_under.new.rows) b) c.blank-in-Err.ensures ∙ ap (λ n. replicate n blank) long)
+    let long : length c.read_under.new.rows ≡ length old = c.read_under.auto.rows ∙ c.clear.auto.rows in
+    let e : (Err c.in-Err.fault, c.clear-in-Err.new.rows) ≡ reading c.args.list.now c.args.sheet.now old =
+    ap (λ rs. (Err c.in-Err.fault, rs)) (c.clear-in-Err.ensures ∙ ap (λ n. replicate n blank) long)
     ∙ sheet-refused c.args.list.now c.args.sheet.now old c.in_ok-names.names.text.now c.in_ok-names.ensures.value c.in-Err.fault c.in-Err.ensures in
     record { value = e; exactly = exactly _ _ _ _ _ e }
 
@@ -56,12 +56,12 @@ pub returns-then-needed-gt-MOST_ROWS : goal.returns-then-needed-gt-MOST_ROWS
 returns-then-needed-gt-MOST_ROWS c =
     let old : List Row = c.args.rows.now in
     let n : ℕ = c.in-Ok.needed in
-    let long : length c.read_under.new.rows ≡ length old = c.read_under.auto.rows ∙ c.fill.auto.self in
+    let long : length c.read_under.new.rows ≡ length old = c.read_under.auto.rows ∙ c.clear.auto.rows in
     let P : List Row → Type 0 = λ rs. UnderRead (lines_of c.in_ok-names.names.text.now) c.args.sheet.now rs c.read_under.new.rows n in
-    let under : P (blanks old) = subst P (c.fill.ensures.after (λ r e. e) ∙ ap (λ b. replicate (length old) b) c.blank.ensures) c.in-Ok.ensures in
+    let under : P (blanks old) = subst P c.clear.ensures c.in-Ok.ensures in
     let more : (2048 < n) ⊎ (length old < n) = ⊎_elim (λ h. inl h) (λ h. inr (omega (arith, h.1))) c.then-needed-gt-MOST_ROWS.either in
-    let e : (Err (too_few_slots n), c.fill-then-needed-gt-MOST_ROWS.new.self) ≡ reading c.args.list.now c.args.sheet.now old =
-    ap (λ rs. (Err (too_few_slots n), rs)) (c.fill-then-needed-gt-MOST_ROWS.ensures.after (λ r e. e) ∙ ap (λ b. replicate (length c.read_under.new.rows) b) c.blank-then-needed-gt-MOST_ROWS.ensures ∙ ap (λ k. replicate k blank) long)
+    let e : (Err (too_few_slots n), c.clear-then-needed-gt-MOST_ROWS.new.rows) ≡ reading c.args.list.now c.args.sheet.now old =
+    ap (λ rs. (Err (too_few_slots n), rs)) (c.clear-then-needed-gt-MOST_ROWS.ensures ∙ ap (λ k. replicate k blank) long)
     ∙ slots-refused c.args.list.now c.args.sheet.now old c.in_ok-names.names.text.now c.in_ok-names.ensures.value c.read_under.new.rows n under more in
     record { value = e; exactly = exactly _ _ _ _ _ e }
 
@@ -69,9 +69,9 @@ pub returns : goal.returns
 returns c =
     let old : List Row = c.args.rows.now in
     let n : ℕ = c.in-Ok.needed in
-    let long : length c.read_under.new.rows ≡ length old = c.read_under.auto.rows ∙ c.fill.auto.self in
+    let long : length c.read_under.new.rows ≡ length old = c.read_under.auto.rows ∙ c.clear.auto.rows in
     let P : List Row → Type 0 = λ rs. UnderRead (lines_of c.in_ok-names.names.text.now) c.args.sheet.now rs c.read_under.new.rows n in
-    let under : P (blanks old) = subst P (c.fill.ensures.after (λ r e. e) ∙ ap (λ b. replicate (length old) b) c.blank.ensures) c.in-Ok.ensures in
+    let under : P (blanks old) = subst P c.clear.ensures c.in-Ok.ensures in
     let room : n ≤ length old = omega (arith, c.if-needed-rows.false) in
     let e : (Ok n, c.read_under.new.rows) ≡ reading c.args.list.now c.args.sheet.now old =
     sheet-read c.args.list.now c.args.sheet.now old c.in_ok-names.names.text.now c.in_ok-names.ensures.value c.read_under.new.rows n under c.if-needed-gt-MOST_ROWS.false room in

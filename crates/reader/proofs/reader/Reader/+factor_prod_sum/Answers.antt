@@ -1,13 +1,10 @@
 -- The machine at each way out; what it does between is in Summed.
-use Rattle.std.proofs.Common.{◌≡◌, ℕ, suc, ◌<◌, List, length, sym, refl, ap, ◌∙◌, arith, w32, SFits, to_z, of_z, rules}
+use Rattle.std.proofs.Common.{◌≡◌, ℕ, suc, ◌<◌, List, sym, refl, ap, ◌∙◌, arith, w32, SFits, to_z, of_z, rules}
 use Rattle.std.proofs.lemmas.Int.{to_z-of_z, to_z_pos}
 use Rattle.std.proofs.lemmas.Result.{err_from_is_err_and}
-use Rattle.names.specs.Lines.{lines_of}
 use Rattle.tables.specs.declared.row.Row.{Row}
 use Rattle.reader.specs.declared.seen.Seen.{Seen}
 use Rattle.reader.specs.declared.progress.Progress.{Progress}
-use Rattle.reader.specs.Holding.{Held}
-use Rattle.reader.specs.Summing.{SumSoFar, TookProd}
 use Rattle.reader.proofs.Carrying.{on, here, passed, missed}
 use Rattle.reader.proofs.Entering.{entered, barred}
 use Rattle.reader.proofs.Nexts.{name-taken, additive-taken, multiplicative-taken, further}
@@ -71,8 +68,8 @@ prod-more-preserved t c =
       omega (arith, next.wrote.moved, c.more.invariant.1),
       c.tell.ensures.same ∙ c.in_ok-factor-2.ensures.same ∙ c.more.invariant.2,
       λ o held first took.
-      let same = c.more.invariant.2 ∙ held in
-      prod-turn (c.more.invariant.3 o held first took) (here same c.see-seen.ensures) (sym c.in-Multiplicative.ensures) c.pass.ensures (on c.in_ok-factor-2.ensures.reads same) c.operator_kind.ensures first c.tell.ensures.value,
+          let same = c.more.invariant.2 ∙ held in
+          prod-turn (c.more.invariant.3 o held first took) (here same c.see-seen.ensures) (sym c.in-Multiplicative.ensures) c.pass.ensures (on c.in_ok-factor-2.ensures.reads same) c.operator_kind.ensures first c.tell.ensures.value,
     )
 
 pub sum-returns-in_default-clause-reads : goal.sum-returns-in_default-clause-reads
@@ -105,7 +102,7 @@ sum-more-preserved t c =
       omega (arith, next.wrote.moved, c.more.invariant.1),
       c.tell.ensures.same ∙ c.in_ok-prod-2.ensures.same ∙ c.more.invariant.2,
       λ o held first took.
-      let same = c.more.invariant.2 ∙ held in
-      let more = on c.in_ok-prod-2.ensures.reads same in
-      sum-turn (c.more.invariant.3 o held first took) (here same c.see-seen.ensures) (sym c.in-Additive.ensures) c.pass.ensures more.0 more.1 c.operator_kind.ensures first c.tell.ensures.value,
+          let same = c.more.invariant.2 ∙ held in
+          let more = on c.in_ok-prod-2.ensures.reads same in
+          sum-turn (c.more.invariant.3 o held first took) (here same c.see-seen.ensures) (sym c.in-Additive.ensures) c.pass.ensures more.0 more.1 c.operator_kind.ensures first c.tell.ensures.value,
     )
