@@ -38,20 +38,20 @@ closed-whole : (p : ℕ) (t : Sheet) (cs : List Command) → closed p (pushed t 
 closed-whole p (only c) cs = refl
 closed-whole p (joint q c t) cs = closed-whole p t (c ∷ cs)
 
-closes : (c : CommandStart) → EndsSheet c → (c ≡ command.End → ⊥) → c ≡ command.CloseBlock
-closes (command.Set x) e n = absurd e
-closes command.If e n = absurd e
-closes command.While e n = absurd e
-closes command.CloseBlock e n = refl
-closes command.End e n = absurd (n refl)
-closes (command.Neither c) e n = absurd e
+closes : (c : Result CommandStart ReaderCause) → EndsSheet c → (c ≡ Ok command.End → ⊥) → c ≡ Ok command.CloseBlock
+closes (Ok (command.Set x)) e n = absurd e
+closes (Ok command.If) e n = absurd e
+closes (Ok command.While) e n = absurd e
+closes (Ok command.CloseBlock) e n = refl
+closes (Ok command.End) e n = absurd (n refl)
+closes (Err c) e n = absurd e
 
 module _ {names : List (List ℕ)} {text : List ℕ} {at : ℕ} {s : Seen} (h : HereIs names text at s) (d : ℕ) (t : Sheet) where
-  pub ends-here : command_of s.lexeme ≡ command.End → JoinedInPlace t → run (ahead names text at) d (cmd (pushed t []) whole) ≡ done t
+  pub ends-here : command_of s.lexeme ≡ Ok command.End → JoinedInPlace t → run (ahead names text at) d (cmd (pushed t []) whole) ≡ done t
   ends-here e j = taking lexeme.End h (end-taken e) d (cmd (pushed t []) whole) ∙ finished-whole s.place t [] j
 
   -- a bracket that closes no block
-  pub goes_on : EndAhead (ahead names text at) → (command_of s.lexeme ≡ command.End → ⊥) → run (ahead names text at) d (cmd (pushed t []) whole) ≡ refused (refusal_of s.lexeme) s.place
+  pub goes_on : EndAhead (ahead names text at) → (command_of s.lexeme ≡ Ok command.End → ⊥) → run (ahead names text at) d (cmd (pushed t []) whole) ≡ refused (refusal_of s.lexeme) s.place
   goes_on e n =
       let P : List Tok → Type 0 = EndAhead in
       let l : s.lexeme ≡ lexeme.CloseBlock = close-block-taken (closes (command_of s.lexeme) (subst P h.tokens e) n) in

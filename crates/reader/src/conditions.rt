@@ -18,7 +18,7 @@ impl Reader<'_> {
         let first = self.progress.count;
         self.conjunct()?;
         let seen = self.see();
-        if let Link::Or = seen.lexeme.link() {
+        if let Some(Link::Or) = seen.lexeme.link() {
             self.progress.pass(seen);
             self.condition()?;
             self.tell(Kind::Or, 0, first, seen.place);
@@ -34,7 +34,7 @@ impl Reader<'_> {
         let first = self.progress.count;
         self.literal()?;
         let seen = self.see();
-        if let Link::And = seen.lexeme.link() {
+        if let Some(Link::And) = seen.lexeme.link() {
             self.progress.pass(seen);
             self.conjunct()?;
             self.tell(Kind::And, 0, first, seen.place);

@@ -71,7 +71,7 @@ fn read_all(names: NameList, sheet: &[u8], rows: &mut [Row]) -> Result<usize, Re
     };
     reader.sheet()?;
     let end = reader.see();
-    let CommandStart::End = end.lexeme.command_start() else {
+    let Ok(CommandStart::End) = end.lexeme.command_start() else {
         return Err(end.refusal());
     };
     Ok(reader.progress.count)

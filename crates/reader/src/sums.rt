@@ -32,7 +32,7 @@ impl Reader<'_> {
         self.prod()?;
         'more: loop {
             let seen = self.see();
-            let Join::Additive(operator) = seen.lexeme.join() else {
+            let Some(Join::Additive(operator)) = seen.lexeme.join() else {
                 return Ok(());
             };
             self.progress.pass(seen);
@@ -50,7 +50,7 @@ impl Reader<'_> {
         self.factor()?;
         'more: loop {
             let seen = self.see();
-            let Join::Multiplicative(operator) = seen.lexeme.join() else {
+            let Some(Join::Multiplicative(operator)) = seen.lexeme.join() else {
                 return Ok(());
             };
             self.progress.pass(seen);
@@ -65,7 +65,7 @@ impl Reader<'_> {
         ensures same { held self.new ≡ held self.old }
     {
         let seen = self.see();
-        match seen.lexeme.operand() {
+        match seen.operand()? {
             Operand::Number(value) => {
                 self.leaf(Kind::Number, value, seen);
                 Ok(())
@@ -81,10 +81,6 @@ impl Reader<'_> {
                 self.progress.depth -= 1;
                 Ok(())
             }
-            Operand::Neither(cause) => Err(Refusal {
-                cause,
-                place: seen.place,
-            }),
         }
     }
 }

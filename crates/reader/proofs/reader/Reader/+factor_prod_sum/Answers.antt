@@ -43,8 +43,10 @@ factor-returns-in-Name-clause-reads t c =
     let few : x < 64 = omega (arith, c.see-seen.ensures.named x (name-taken (sym c.in-Name.ensures)), c.args.self.now.stands.listed) in
     record { answer = name-read c.see-seen.ensures (sym c.in-Name.ensures) c.args.self.now.stands.within (to_z w32 x) (to_z_pos w32 x (omega arith)) c.leaf-in-Name.ensures.value }
 
-pub factor-returns-in-Neither-clause-reads : goal.factor-returns-in-Neither-clause-reads
-factor-returns-in-Neither-clause-reads t c = record { answer = no-factor c.args.self.now.progress c.see-seen.ensures (sym c.in-Neither.ensures) }
+pub factor-returns-in_err-operand-clause-reads : goal.factor-returns-in_err-operand-clause-reads
+factor-returns-in_err-operand-clause-reads t c =
+    let p = err_from_is_err_and c.from_residual.result c.from_residual.ensures.1 in
+    rw (p.1, p.2) (record { answer = no-factor c.args.self.now.progress c.see-seen.ensures c.in_err-operand.ensures })
 
 pub prod-returns-in_err-factor-2-clause-reads : goal.prod-returns-in_err-factor-2-clause-reads
 prod-returns-in_err-factor-2-clause-reads t c =
