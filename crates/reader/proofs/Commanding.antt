@@ -285,23 +285,25 @@ pub ended-early : {names : List (List ℕ)} {text : List ℕ} (a : Progress) {s 
 ended-early a {s} h is why [] b w = taking lexeme.End h (end-taken is) a.depth (cmd [] b) ∙ sym (ap (λ l. refused (refusal_of l) s.place) (end-taken is)) ∙ why-refused why
 ended-early a h is why (c ∷ cs) b w = absurd (w (closes _ _ _ (next lexeme.End h (end-taken is)) tt))
 
-pub no-command : {names : List (List ℕ)} {text : List ℕ} (a : Progress) {s : Seen} {r : Refusal} → HereIs names text a.position.at s → Err r ≡ seen_as s (command_of s.lexeme) → (cs : List Command) (b : Block) → Wanting cs (ahead names text a.position.at) → from names text a (cmd cs b) ≡ refused r.cause r.place
-no-command a {s} {r} h e cs b w =
-    let why = seen-refused (command_of s.lexeme) e in
+pub no-command : {names : List (List ℕ)} {text : List ℕ} (a : Progress) {s : Seen} {r : Refusal} → HereIs names text a.position.at s → Err r ≡ seen_as s (command_of s.lexeme) → (cs : List Command) (b : Block) → from names text a (cmd cs b) ≡ refused r.cause r.place
+no-command a {s} {r} h e cs b =
+    let why = seen-refused s (command_of s.lexeme) e in
     refusing h a.depth (cmd cs b) r.cause s.place (ap (λ k. commanded k s.place cs b) why.0) ∙ ap (refused r.cause) (sym why.1)
 
 -- sheets
 
-pub one-command : {names : List (List ℕ)} {text : List ℕ} {a z : Progress} {old new : List Row} {s : Seen} (k : Result CommandStart ReaderCause) → TookCommand names text a old z new → HereIs names text z.position.at s → command_of s.lexeme ≡ k → EndsSheet k → TookSheet names text a old z new
-one-command k took h is ends =
-    let E : Result CommandStart ReaderCause → Type 0 = EndsSheet in
+pub ends-sheet : {x y : Result CommandStart ReaderCause} → x ≡ y → EndsSheet y → EndsSheet x
+ends-sheet e ends = let E : Result CommandStart ReaderCause → Type 0 = EndsSheet in subst E (sym e) ends
+
+pub one-command : {names : List (List ℕ)} {text : List ℕ} {a z : Progress} {old new : List Row} {s : Seen} → TookCommand names text a old z new → HereIs names text z.position.at s → EndsSheet (command_of s.lexeme) → TookSheet names text a old z new
+one-command took h ends =
     record {
       tree = only took.tree;
       moves = took.moves;
       wrote = took.wrote;
       place = took.place;
       joints = tt;
-      ends = closes _ _ _ h.tokens (subst E (sym is) ends);
+      ends = closes _ _ _ h.tokens ends;
     }
 
 goes_on : (k : Result CommandStart ReaderCause) → (k ≡ Ok command.CloseBlock → ⊥) → (k ≡ Ok command.End → ⊥) → EndsSheet k → ⊥

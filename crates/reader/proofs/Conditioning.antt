@@ -1,6 +1,6 @@
 -- One turn of each function that reads conditions: the machine goes from where the first part began to where the last
 -- ends, and the rows are those of the tree.
-use Rattle.std.proofs.Common.{◌≡◌, ℕ, suc, pred, ◌+◌, ◌-◌, ◌<◌, ◌≤◌, Bool, true, false, cond, List, [], ◌∷◌, length, ℤ, pos, Some, None, Ok, Err, Result, sym, refl, ap, ◌∙◌, subst, sub-one, arith, w32, to_z, of_z}
+use Rattle.std.proofs.Common.{◌≡◌, ℕ, suc, pred, ◌+◌, ◌-◌, ◌<◌, ◌≤◌, Bool, true, false, cond, List, [], ◌∷◌, length, ℤ, pos, Some, None, Ok, Err, Option, Result, sym, refl, ap, ◌∙◌, subst, sub-one, arith, w32, to_z, of_z}
 use mir.Val.{bool_byte}
 use Rattle.arith.specs.declared.comparison.Comparison.{Comparison}
 use Rattle.arith.specs.declared.comparison.Comparison.TheVariants as comparison

@@ -68,7 +68,7 @@ module _ {names : List (List ℕ)} {text : List ℕ} where
 
   pub no-factor : (a : Progress) {s : Seen} {r : Refusal} → HereIs names text a.position.at s → Err r ≡ seen_as s (operand_of s.lexeme) → (t m : Left) (k : Use) → from names text a (want t m k) ≡ refused r.cause r.place
   no-factor a {s} {r} h e t m k =
-      let why = seen-refused (operand_of s.lexeme) e in
+      let why = seen-refused s (operand_of s.lexeme) e in
       refusing h a.depth (want t m k) r.cause s.place (ap (λ o. wanted a.depth s.place o t m k) why.0) ∙ ap (refused r.cause) (sym why.1)
 
   -- a sum in brackets

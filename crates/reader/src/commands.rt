@@ -21,8 +21,8 @@ impl Reader<'_> {
         let first = self.progress.count;
         self.command()?;
         let seen = self.see();
-        match seen.lexeme.command_start() {
-            Ok(CommandStart::CloseBlock | CommandStart::End) => Ok(()),
+        match seen.command_start()? {
+            CommandStart::CloseBlock | CommandStart::End => Ok(()),
             _ => {
                 self.sheet()?;
                 self.tell(Kind::Joint, 0, first, seen.place);
@@ -72,10 +72,10 @@ impl Reader<'_> {
         self.bracketed()?;
         self.block()?;
         let next = self.see();
-        let Some(Mark::Else) = next.lexeme.mark() else {
+        if next.lexeme.mark() != Some(Mark::Else) {
             self.tell(Kind::If, 0, first, seen.place);
             return Ok(());
-        };
+        }
         self.progress.pass(next);
         self.block()?;
         self.tell(Kind::IfElse, 0, first, seen.place);
@@ -107,9 +107,9 @@ impl Reader<'_> {
         self.progress.enter(seen)?;
         self.sheet()?;
         let end = self.see();
-        let Ok(CommandStart::CloseBlock) = end.lexeme.command_start() else {
+        if end.lexeme.command_start() != Ok(CommandStart::CloseBlock) {
             return Err(end.refusal());
-        };
+        }
         self.progress.pass(end);
         self.progress.depth -= 1;
         Ok(())

@@ -26,16 +26,7 @@ impl From<Refusal> for Fault {
     ghost from_gives = { λ r f. f ≡ reader_fault r.cause r.place };
 
     fn from(refusal: Refusal) -> Fault {
-        reader_fault(refusal.cause, refusal.place)
-    }
-}
-
-pub(crate) fn reader_fault(cause: ReaderCause, figure: usize) -> Fault
-    ensures { result ≡ reader_fault cause figure }
-{
-    Fault {
-        layer: Layer::Reader(cause),
-        figure: figure as u64,
+        Fault::new(Layer::Reader(refusal.cause), refusal.place)
     }
 }
 

@@ -1,24 +1,11 @@
 // Sums, prods and factors: they call each other, and each row is written behind its parts'.
 ghost use Rattle.std.specs.Prelude.{◌≡◌};
-ghost use Rattle.tables.specs.Rows.{operator_kind};
 ghost use Rattle.reader.specs.Summing.{SumAnswer, ProdAnswer, FactorAnswer};
 
 use crate::reader::Reader;
 use crate::seen::Refusal;
-use arith::Operator;
 use grammar::{Join, Mark, Operand};
 use tables::Kind;
-
-fn operator_kind(operator: Operator) -> Kind
-    ensures { result ≡ operator_kind operator }
-{
-    match operator {
-        Operator::Add => Kind::Add,
-        Operator::Sub => Kind::Sub,
-        Operator::Mul => Kind::Mul,
-        Operator::Div => Kind::Div,
-    }
-}
 
 impl Reader<'_> {
     ghost use Rattle.reader.specs.Holding.{Reads, held};
@@ -37,7 +24,7 @@ impl Reader<'_> {
             };
             self.progress.pass(seen);
             self.prod()?;
-            self.tell(operator_kind(operator), 0, first, seen.place);
+            self.tell(Kind::from(operator), 0, first, seen.place);
         }
     }
 
@@ -55,7 +42,7 @@ impl Reader<'_> {
             };
             self.progress.pass(seen);
             self.factor()?;
-            self.tell(operator_kind(operator), 0, first, seen.place);
+            self.tell(Kind::from(operator), 0, first, seen.place);
         }
     }
 

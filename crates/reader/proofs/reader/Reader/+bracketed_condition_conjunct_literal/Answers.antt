@@ -1,5 +1,5 @@
 -- The machine at each way out; what it does between is in Conditioning.
-use Rattle.std.proofs.Common.{sym, ◌∙◌, w32, to_z, of_z}
+use Rattle.std.proofs.Common.{sym, ◌∙◌, w32, to_z, of_z, rules}
 use Rattle.std.proofs.lemmas.Result.{err_from_is_err_and}
 use Rattle.reader.proofs.Carrying.{on, here, passed, missed}
 use Rattle.reader.proofs.Entering.{entered, barred}
@@ -37,33 +37,33 @@ pub condition-returns-in_err-condition-clause-reads : goal.condition-returns-in_
 condition-returns-in_err-condition-clause-reads t c =
     let p = err_from_is_err_and c.from_residual-in_err-condition.result c.from_residual-in_err-condition.ensures.1 in
     let same = c.in_ok-conjunct.ensures.same in
-    rw (p.1, p.2) (record { answer = condition-refused (here same c.see-seen.ensures) (sym c.in-Or.ensures) c.in_ok-conjunct.ensures.reads.answer c.pass.ensures (on c.in_err-condition.ensures.reads same) })
+    rw (p.1, p.2) (record { answer = condition-refused (here same c.see-seen.ensures) (search rules) c.in_ok-conjunct.ensures.reads.answer c.pass.ensures (on c.in_err-condition.ensures.reads same) })
 
 pub condition-returns-in_ok-condition-clause-reads : goal.condition-returns-in_ok-condition-clause-reads
 condition-returns-in_ok-condition-clause-reads t c =
     let same = c.in_ok-conjunct.ensures.same in
-    record { answer = two-conjuncts (here same c.see-seen.ensures) (sym c.in-Or.ensures) c.in_ok-conjunct.ensures.reads.answer c.pass.ensures (on c.in_ok-condition.ensures.reads same) c.tell.ensures.value }
+    record { answer = two-conjuncts (here same c.see-seen.ensures) (search rules) c.in_ok-conjunct.ensures.reads.answer c.pass.ensures (on c.in_ok-condition.ensures.reads same) c.tell.ensures.value }
 
-pub condition-returns-in_default-clause-reads : goal.condition-returns-in_default-clause-reads
-condition-returns-in_default-clause-reads t c =
+pub condition-returns-else-eq-clause-reads : goal.condition-returns-else-eq-clause-reads
+condition-returns-else-eq-clause-reads t c =
     let same = c.in_ok-conjunct.ensures.same in
-    record { answer = one-conjunct (here same c.see-seen.ensures) (λ e. c.in_default.not-Or (c.link.ensures ∙ e)) c.in_ok-conjunct.ensures.reads.answer }
+    record { answer = one-conjunct (here same c.see-seen.ensures) (search rules) c.in_ok-conjunct.ensures.reads.answer }
 
 pub conjunct-returns-in_err-conjunct-clause-reads : goal.conjunct-returns-in_err-conjunct-clause-reads
 conjunct-returns-in_err-conjunct-clause-reads t c =
     let p = err_from_is_err_and c.from_residual-in_err-conjunct.result c.from_residual-in_err-conjunct.ensures.1 in
     let same = c.in_ok-literal.ensures.same in
-    rw (p.1, p.2) (record { answer = conjunct-refused (here same c.see-seen.ensures) (sym c.in-And.ensures) c.in_ok-literal.ensures.reads.answer c.pass.ensures (on c.in_err-conjunct.ensures.reads same) })
+    rw (p.1, p.2) (record { answer = conjunct-refused (here same c.see-seen.ensures) (search rules) c.in_ok-literal.ensures.reads.answer c.pass.ensures (on c.in_err-conjunct.ensures.reads same) })
 
 pub conjunct-returns-in_ok-conjunct-clause-reads : goal.conjunct-returns-in_ok-conjunct-clause-reads
 conjunct-returns-in_ok-conjunct-clause-reads t c =
     let same = c.in_ok-literal.ensures.same in
-    record { answer = two-literals (here same c.see-seen.ensures) (sym c.in-And.ensures) c.in_ok-literal.ensures.reads.answer c.pass.ensures (on c.in_ok-conjunct.ensures.reads same) c.tell.ensures.value }
+    record { answer = two-literals (here same c.see-seen.ensures) (search rules) c.in_ok-literal.ensures.reads.answer c.pass.ensures (on c.in_ok-conjunct.ensures.reads same) c.tell.ensures.value }
 
-pub conjunct-returns-in_default-clause-reads : goal.conjunct-returns-in_default-clause-reads
-conjunct-returns-in_default-clause-reads t c =
+pub conjunct-returns-else-eq-clause-reads : goal.conjunct-returns-else-eq-clause-reads
+conjunct-returns-else-eq-clause-reads t c =
     let same = c.in_ok-literal.ensures.same in
-    record { answer = one-literal (here same c.see-seen.ensures) (λ e. c.in_default.not-And (c.link.ensures ∙ e)) c.in_ok-literal.ensures.reads.answer }
+    record { answer = one-literal (here same c.see-seen.ensures) (search rules) c.in_ok-literal.ensures.reads.answer }
 
 pub literal-returns-in_err-literal-in-Not-clause-reads : goal.literal-returns-in_err-literal-in-Not-clause-reads
 literal-returns-in_err-literal-in-Not-clause-reads t c =

@@ -23,5 +23,5 @@ returns-clause-reads c =
     let same = c.in_ok-sum.ensures.same in
     record {
       answer = two-sums c.in-Some.comparison (here same c.see-seen.ensures) (sym c.in-Some.ensures) c.in_ok-sum.ensures.reads.answer c.pass.ensures (on c.in_ok-sum-2.ensures.reads same)
-          (c.tell.ensures.value ∙ ap (λ v. told c.sum-2.new.self.rows.now c.sum-2.new.self.progress kind.Compare v c.args.self.now.progress.count c.see-seen.result.place) (number-back c.in-Some.comparison c.number.ensures.value c.from.ensures));
+          (c.tell.ensures.value ∙ ap (λ v. told c.sum-2.new.self.rows.now c.sum-2.new.self.progress kind.Compare v c.args.self.now.progress.count c.see-seen.result.place) (number-back c.in-Some.comparison c.from.ensures.value c.from-2.ensures));
     }
