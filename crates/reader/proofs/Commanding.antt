@@ -1,6 +1,6 @@
 -- One turn of each function that reads commands, blocks and sheets: the machine goes from where the first part began to
 -- where the last ends, and the rows are those of the tree.
-use Rattle.std.proofs.Common.{◌≡◌, ℕ, suc, pred, ◌+◌, ◌-◌, ◌<◌, ◌≤◌, List, [], ◌∷◌, length, pos, Some, None, Ok, Err, Option, Result, sym, refl, ap, ◌∙◌, subst, sub-one, arith}
+use Rattle.std.proofs.Common.{◌≡◌, ℕ, suc, pred, ◌+◌, ◌-◌, ◌<◌, ◌≤◌, List, [], ◌∷◌, length, pos, Some, None, Ok, Err, Option, Result, sym, refl, ap, ◌∙◌, subst, ⊎_elim, sub-one, arith}
 use Rattle.faults.specs.declared.causes.ReaderCause.{ReaderCause}
 use Rattle.faults.specs.declared.causes.ReaderCause.TheVariants.{Unexpected}
 use Rattle.tables.specs.declared.kind.Kind.TheVariants as kind
@@ -23,7 +23,7 @@ use Rattle.reader.specs.Progressing.{read_on, told, Passed, Missed, from}
 use Rattle.reader.specs.Summing.{TookSum, behind_sum}
 use Rattle.reader.specs.Judging.{TookBracket}
 use Rattle.reader.specs.Ordering.{pushed, JoinedInPlace, place_ahead, EndsSheet, EndAhead, Inner, Wanting, TookCommand, TookSheet, TookBlock, Begins}
-use Rattle.reader.proofs.Nexts.{further, next, taking, refusing, seen-refused, set-taken, if-taken, while-taken, close-block-taken, end-taken, else-taken}
+use Rattle.reader.proofs.Nexts.{sheet-ends, further, next, taking, refusing, seen-refused, set-taken, if-taken, while-taken, close-block-taken, end-taken, else-taken}
 use Rattle.reader.proofs.Entering.{Entered, Barred}
 use Rattle.reader.proofs.Bracketing.{passed-open-block, passed-semicolon, passed-becomes, room-left, no_room, between}
 use Rattle.reader.proofs.Writing.{sum-long, condition-long, command-long, sheet-long, before, beyond, one_told, two-told, three-told}
@@ -230,14 +230,6 @@ finished-inner p (c ∷ cs) (if_body q d ds b) i = refl
 finished-inner p (c ∷ cs) (else_body q d t ds b) i = refl
 finished-inner p (c ∷ cs) (while_body q d ds b) i = refl
 
-ends-text : (k : Result CommandStart ReaderCause) → EndsSheet k → (k ≡ Ok command.CloseBlock → ⊥) → k ≡ Ok command.End
-ends-text (Ok (command.Set x)) e other = absurd e
-ends-text (Ok command.If) e other = absurd e
-ends-text (Ok command.While) e other = absurd e
-ends-text (Ok command.CloseBlock) e other = absurd (other refl)
-ends-text (Ok command.End) e other = refl
-ends-text (Err c) e other = absurd e
-
 pub block_read : {names : List (List ℕ)} {text : List ℕ} {a y x z w : Progress} {old new : List Row} {s e : Seen} → Passed mark.OpenBlock names text a y s → Entered y s x → TookSheet names text x old z new → HereIs names text z.position.at e → command_of e.lexeme ≡ Ok command.CloseBlock → w ≡ read_on z e → TookBlock names text a old (record { position = w.position; count = w.count; depth = w.depth - 1 }) new
 block_read {names} {text} {a} {y} {x} {z} {w} {old} {new} {s} {e} p inside took h is on =
     let R : Progress → Type 0 = λ y. Entered y s x in
@@ -264,7 +256,7 @@ block_read {names} {text} {a} {y} {x} {z} {w} {old} {new} {s} {e} p inside took 
 pub block-open : {names : List (List ℕ)} {text : List ℕ} {a y x z : Progress} {old new : List Row} {s e : Seen} {r : Refusal} → Passed mark.OpenBlock names text a y s → Entered y s x → TookSheet names text x old z new → HereIs names text z.position.at e → (command_of e.lexeme ≡ Ok command.CloseBlock → ⊥) → r ≡ refused_at e → (b : Block) → Inner b → from names text a (blocking b) ≡ refused r.cause r.place
 block-open {names} {text} {a} {y} {x} {z} {old} {new} {s} {e} {r} p inside took h other why b i =
     let E : List Tok → Type 0 = EndAhead in
-    let last = ends-text (command_of e.lexeme) (subst E h.tokens took.ends) other in
+    let last = ⊎_elim (λ close. absurd (other close)) (λ end. end) (sheet-ends (command_of e.lexeme) (subst E h.tokens took.ends)) in
     let same : refused_at e ≡ record { cause = Unexpected; place = e.place } = ap (λ l. refused_at (record { lexeme = l; place = e.place; end = e.end })) (end-taken last) in
     block_on p inside b ∙ took.moves [] b
     ∙ taking lexeme.End h (end-taken last) z.depth (cmd (pushed took.tree []) b)
@@ -306,14 +298,6 @@ one-command took h ends =
       ends = closes _ _ _ h.tokens ends;
     }
 
-goes_on : (k : Result CommandStart ReaderCause) → (k ≡ Ok command.CloseBlock → ⊥) → (k ≡ Ok command.End → ⊥) → EndsSheet k → ⊥
-goes_on (Ok (command.Set x)) a b e = e
-goes_on (Ok command.If) a b e = e
-goes_on (Ok command.While) a b e = e
-goes_on (Ok command.CloseBlock) a b e = a refl
-goes_on (Ok command.End) a b e = b refl
-goes_on (Err c) a b e = e
-
 pub more-commands : {names : List (List ℕ)} {text : List ℕ} {a y z w : Progress} {old mid late new : List Row} {s : Seen} → TookCommand names text a old y mid → HereIs names text y.position.at s → TookSheet names text y mid z late → (new, w) ≡ told late z kind.Joint (pos 0) a.count s.place → TookSheet names text a old w new
 more-commands {names} {text} {a} {y} {z} {w} {old} {mid} {late} {new} {s} took h rest row =
     let P : List Row × Progress → Type 0 = λ p. TookSheet names text a old p.1 p.0 in
@@ -329,4 +313,4 @@ more-commands {names} {text} {a} {y} {z} {w} {old} {mid} {late} {new} {s} took h
 pub rest-refused : {names : List (List ℕ)} {text : List ℕ} {a y : Progress} {old mid : List Row} {s : Seen} {r : Refusal} → TookCommand names text a old y mid → HereIs names text y.position.at s → (command_of s.lexeme ≡ Ok command.CloseBlock → ⊥) → (command_of s.lexeme ≡ Ok command.End → ⊥) → ((cs : List Command) (b : Block) → Wanting cs (ahead names text y.position.at) → from names text y (cmd cs b) ≡ refused r.cause r.place) → (cs : List Command) (b : Block) → Wanting cs (ahead names text a.position.at) → from names text a (cmd cs b) ≡ refused r.cause r.place
 rest-refused {s = s} took h inside more refusal cs b w =
     let E : List Tok → Type 0 = EndAhead in
-    took.moves cs b ∙ refusal (took.tree ∷ cs) b (λ e. goes_on (command_of s.lexeme) inside more (subst E h.tokens e))
+    took.moves cs b ∙ refusal (took.tree ∷ cs) b (λ e. ⊎_elim inside more (sheet-ends (command_of s.lexeme) (subst E h.tokens e)))

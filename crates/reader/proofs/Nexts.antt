@@ -1,5 +1,5 @@
 -- The next token, once it was seen, and what was seen, once it was taken or refused.
-use Rattle.std.proofs.Common.{◌≡◌, ℕ, ◌<◌, Bool, List, ◌∷◌, ℤ, Some, None, Ok, Err, Result, sym, refl, ap, ◌∙◌, subst, arith}
+use Rattle.std.proofs.Common.{◌≡◌, ℕ, ◌<◌, Bool, ◌⊎◌, inl, inr, List, ◌∷◌, ℤ, Some, Ok, Err, Result, sym, refl, ap, ◌∙◌, subst, arith}
 use Rattle.faults.specs.declared.causes.ReaderCause.{ReaderCause}
 use Rattle.arith.specs.declared.operator.Operator.{Operator}
 use Rattle.arith.specs.declared.comparison.Comparison.{Comparison}
@@ -9,6 +9,7 @@ use Rattle.grammar.specs.declared.choice.Operand.TheVariants as operand
 use Rattle.grammar.specs.declared.choice.Join.TheVariants as join
 use Rattle.grammar.specs.declared.choice.LiteralStart.TheVariants as literal
 use Rattle.grammar.specs.declared.choice.Link.TheVariants as link
+use Rattle.grammar.specs.declared.choice.CommandStart.{CommandStart}
 use Rattle.grammar.specs.declared.choice.CommandStart.TheVariants as command
 use Rattle.grammar.specs.declared.choice.Mark.TheVariants as mark
 use Rattle.grammar.specs.Choices.{operand_of, join_of, comparison_of, literal_of, link_of, command_of, mark_of, depth_after}
@@ -19,6 +20,7 @@ use Rattle.grammar.proofs.Lexing.{run-refused}
 use Rattle.reader.specs.declared.seen.Seen.{Seen}
 use Rattle.reader.specs.declared.seen.Refusal.{Refusal}
 use Rattle.reader.specs.Ahead.{ahead, follow, HereIs, seen_as}
+use Rattle.reader.specs.Ordering.{EndsSheet}
 
 -- the lexemes that are taken
 
@@ -142,3 +144,12 @@ pub refusing : {names : List (List ℕ)} {text : List ℕ} {at : ℕ} {s : Seen}
 refusing {names} {text} {at} {s} h d m c p e =
     let rest : List Tok = follow s.lexeme (ahead names text s.end) in
     taking s.lexeme h refl d m ∙ ap (λ q. run rest (depth_after s.lexeme d) q) e ∙ run-refused rest (depth_after s.lexeme d) c p
+
+-- what ends a sheet: the end of its block, or of the text
+pub sheet-ends : (k : Result CommandStart ReaderCause) → EndsSheet k → (k ≡ Ok command.CloseBlock) ⊎ (k ≡ Ok command.End)
+sheet-ends (Ok (command.Set x)) e = absurd e
+sheet-ends (Ok command.If) e = absurd e
+sheet-ends (Ok command.While) e = absurd e
+sheet-ends (Ok command.CloseBlock) e = inl refl
+sheet-ends (Ok command.End) e = inr refl
+sheet-ends (Err c) e = absurd e

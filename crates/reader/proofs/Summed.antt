@@ -1,5 +1,6 @@
 -- One turn of each of the functions that read sums.
-use Rattle.std.proofs.Common.{◌≡◌, ℕ, suc, pred, ◌+◌, ◌-◌, ◌<◌, ◌≤◌, List, length, ℤ, pos, Some, None, Ok, Err, Option, Result, sym, refl, ap, ◌∙◌, subst, arith}
+use Rattle.std.proofs.Common.{◌≡◌, ℕ, suc, pred, ◌+◌, ◌-◌, ◌<◌, ◌≤◌, List, length, ℤ, pos, Some, None, Ok, Err, Option, sym, refl, ap, ◌∙◌, subst, arith, w32, to_z}
+use Rattle.std.proofs.lemmas.Int.{to_z_pos}
 use Rattle.faults.specs.declared.causes.ReaderCause.{ReaderCause}
 use Rattle.faults.specs.declared.causes.ReaderCause.TheVariants.{TooManyOpen}
 use Rattle.arith.specs.declared.operator.Operator.{Operator}
@@ -56,11 +57,12 @@ module _ {names : List (List ℕ)} {text : List ℕ} where
         wrote = leaf-told a kind.Number v s refl (further (lexeme.Number v) h l tt) (h.within in-text);
       })
 
-  pub name-read : {a z : Progress} {old new : List Row} {s : Seen} {x : ℕ} → HereIs names text a.position.at s → operand_of s.lexeme ≡ Ok (operand.Name x) → a.position.at ≤ length text → (u : ℤ) → u ≡ pos x → (new, z) ≡ told_leaf old a kind.Name u s → TookFactor names text a old z new
-  name-read {a} {z} {old} {new} {s} {x} h e in-text u is told_is =
+  pub name-read : {a z : Progress} {old new : List Row} {s : Seen} {x : ℕ} → HereIs names text a.position.at s → operand_of s.lexeme ≡ Ok (operand.Name x) → a.position.at ≤ length text → length names ≤ 64 → (new, z) ≡ told_leaf old a kind.Name (to_z w32 x) s → TookFactor names text a old z new
+  name-read {a} {z} {old} {new} {s} {x} h e in-text few told_is =
       let P : List Row × Progress → Type 0 = λ p. TookFactor names text a old p.1 p.0 in
       let l : s.lexeme ≡ lexeme.Name x = name-taken e in
-      subst P (sym (told_is ∙ ap (λ w. told_leaf old a kind.Name w s) is)) (record {
+      let small : to_z w32 x ≡ pos x = to_z_pos w32 x (omega (arith, h.named x l)) in
+      subst P (sym (told_is ∙ ap (λ w. told_leaf old a kind.Name w s) small)) (record {
         tree = name s.place x;
         moves = λ t m k. taking (lexeme.Name x) h l a.depth (want t m k);
         wrote = leaf-told a kind.Name (pos x) s refl (further (lexeme.Name x) h l tt) (h.within in-text);

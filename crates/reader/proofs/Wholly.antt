@@ -1,10 +1,9 @@
 -- A whole sheet: the machine starts at its first token, and its commands, gathered, are its tree.
-use Rattle.std.proofs.Common.{◌≡◌, ℕ, suc, ◌+◌, ◌<◌, ◌≤◌, false, ◌&&◌, leb, ◌⊎◌, List, [], ◌∷◌, ◌++◌, length, drop, set, Ok, Err, Result, sym, refl, ap, ◌∙◌, subst, ⊎_elim, arith}
+use Rattle.std.proofs.Common.{◌≡◌, ℕ, suc, ◌+◌, ◌<◌, ◌≤◌, false, ◌&&◌, leb, ◌⊎◌, List, [], ◌∷◌, ◌++◌, length, drop, set, Ok, Err, sym, refl, ap, ◌∙◌, subst, ⊎_elim, arith}
 use lib.ListN.{length-replicate}
 use lib.Seq.{sets, sets-eq}
 use Rattle.std.proofs.lemmas.List.{drop-replicate}
 use Rattle.std.proofs.lemmas.Bool.{cond-true, cond-false, le-leb, lt-leb, and_from, and_left, and_right}
-use Rattle.faults.specs.declared.causes.ReaderCause.{ReaderCause}
 use Rattle.faults.specs.declared.causes.ReaderCause.TheVariants.{Unexpected}
 use Rattle.faults.specs.declared.fault.Fault.{Fault}
 use Rattle.names.specs.Lines.{lines_of}
@@ -13,7 +12,6 @@ use Rattle.tables.specs.declared.row.Row.{Row}
 use Rattle.tables.specs.Rows.{blank, sheet_size, sheet_rows}
 use Rattle.tables.specs.Trees.{Command, Sheet, only, joint}
 use Rattle.grammar.specs.declared.lexeme.Lexeme.TheVariants as lexeme
-use Rattle.grammar.specs.declared.choice.CommandStart.{CommandStart}
 use Rattle.grammar.specs.declared.choice.CommandStart.TheVariants as command
 use Rattle.grammar.specs.Choices.{command_of, refusal_of}
 use Rattle.grammar.specs.Lexemes.{Tok, lexemes}
@@ -23,9 +21,9 @@ use Rattle.reader.specs.Ahead.{ahead, HereIs}
 use Rattle.reader.specs.Progressing.{put}
 use Rattle.reader.specs.Reading.{blanks, filled, too_few_slots, told_by, list_told, reading}
 use Rattle.reader.specs.Wholes.{UnderRead, UnderRefused, long, refuses}
-use Rattle.reader.specs.Ordering.{pushed, JoinedInPlace, EndsSheet, EndAhead}
+use Rattle.reader.specs.Ordering.{pushed, JoinedInPlace, EndAhead}
 use Rattle.reader.proofs.Writing.{sheet-long}
-use Rattle.reader.proofs.Nexts.{close-block-taken, end-taken, taking, refusing}
+use Rattle.reader.proofs.Nexts.{sheet-ends, close-block-taken, end-taken, taking, refusing}
 
 pub all-ahead : (names : List (List ℕ)) (text : List ℕ) → lexemes names text ≡ ahead names text 0
 unfolding ahead
@@ -39,14 +37,6 @@ closed-whole : (p : ℕ) (t : Sheet) (cs : List Command) → closed p (pushed t 
 closed-whole p (only c) cs = refl
 closed-whole p (joint q c t) cs = closed-whole p t (c ∷ cs)
 
-closes : (c : Result CommandStart ReaderCause) → EndsSheet c → (c ≡ Ok command.End → ⊥) → c ≡ Ok command.CloseBlock
-closes (Ok (command.Set x)) e n = absurd e
-closes (Ok command.If) e n = absurd e
-closes (Ok command.While) e n = absurd e
-closes (Ok command.CloseBlock) e n = refl
-closes (Ok command.End) e n = absurd (n refl)
-closes (Err c) e n = absurd e
-
 module _ {names : List (List ℕ)} {text : List ℕ} {at : ℕ} {s : Seen} (h : HereIs names text at s) (d : ℕ) (t : Sheet) where
   pub ends-here : command_of s.lexeme ≡ Ok command.End → JoinedInPlace t → run (ahead names text at) d (cmd (pushed t []) whole) ≡ done t
   ends-here e j = taking lexeme.End h (end-taken e) d (cmd (pushed t []) whole) ∙ finished-whole s.place t [] j
@@ -55,7 +45,7 @@ module _ {names : List (List ℕ)} {text : List ℕ} {at : ℕ} {s : Seen} (h : 
   pub goes_on : EndAhead (ahead names text at) → (command_of s.lexeme ≡ Ok command.End → ⊥) → run (ahead names text at) d (cmd (pushed t []) whole) ≡ refused (refusal_of s.lexeme) s.place
   goes_on e n =
       let P : List Tok → Type 0 = EndAhead in
-      let l : s.lexeme ≡ lexeme.CloseBlock = close-block-taken (closes (command_of s.lexeme) (subst P h.tokens e) n) in
+      let l : s.lexeme ≡ lexeme.CloseBlock = close-block-taken (⊎_elim (λ close. close) (λ end. absurd (n end)) (sheet-ends (command_of s.lexeme) (subst P h.tokens e))) in
       refusing h d (cmd (pushed t []) whole) (refusal_of s.lexeme) s.place
       (ap (λ x. commanded (command_of x) s.place (pushed t []) whole) l ∙ closed-whole s.place t [] ∙ ap (λ x. refused (refusal_of x) s.place) (sym l))
 

@@ -1,5 +1,5 @@
 -- The small steps of reading, and what is left of each: the position behind a token, a bracket more, a row more.
-use Rattle.std.specs.Prelude.{◌≡◌, ℕ, suc, ◌+◌, ◌-◌, ◌<◌, ◌≤◌, cond, List, [], ◌∷◌, length, ℤ, Some, None, Ok, Err, Option, Result, nat_lt, slice_set}
+use Rattle.std.specs.Prelude.{◌≡◌, ℕ, suc, ◌+◌, ◌-◌, ◌<◌, ◌≤◌, cond, List, [], ◌∷◌, length, ℤ, Some, Ok, Err, Option, Result, nat_lt, slice_set}
 use Rattle.faults.specs.declared.causes.ReaderCause.TheVariants.{TooManyOpen}
 use Rattle.tables.specs.declared.kind.Kind.{Kind}
 use Rattle.tables.specs.declared.row.Row.{Row}

@@ -1,34 +1,31 @@
 -- The machine at each way out; what it does between is in Summed.
-use Rattle.std.proofs.Common.{◌≡◌, ℕ, suc, ◌<◌, List, Some, sym, refl, ap, ◌∙◌, arith, w32, SFits, to_z, of_z, rules}
-use Rattle.std.proofs.lemmas.Int.{to_z-of_z, to_z_pos}
+use Rattle.std.proofs.Common.{◌≡◌, suc, ◌<◌, List, Some, sym, refl, ap, ◌∙◌, arith, w32, SFits, to_z, of_z, rules}
 use Rattle.std.proofs.lemmas.Result.{err_from_is_err_and}
+use Rattle.std.proofs.lemmas.Int.{to_z-of_z}
 use Rattle.tables.specs.declared.row.Row.{Row}
 use Rattle.reader.specs.declared.seen.Seen.{Seen}
 use Rattle.reader.specs.declared.progress.Progress.{Progress}
-use Rattle.reader.proofs.Carrying.{on, here, passed, missed}
+use Rattle.reader.proofs.Carrying.{stops, on, here, passed, missed}
 use Rattle.reader.proofs.Entering.{entered, barred}
-use Rattle.reader.proofs.Nexts.{name-taken, additive-taken, multiplicative-taken, further, seen-taken}
+use Rattle.reader.proofs.Nexts.{additive-taken, multiplicative-taken, further, seen-taken}
 use Rattle.reader.proofs.Summed.{number_read, name-read, no-factor, bracket-barred, bracket-refused, bracket-unclosed, bracket-read, prod-first, prod-refused, prod-turn, sum_first, sum-refused, sum-turn, sum-read}
 use Rattle.reader.proofs.reader.Reader.+factor_prod_sum.Goals as goal
 
 pub factor-returns-in_err-enter-in-Bracket-clause-reads : goal.factor-returns-in_err-enter-in-Bracket-clause-reads
 factor-returns-in_err-enter-in-Bracket-clause-reads t c =
     let is = seen-taken c.see-seen.result _ c.in_ok-value.ensures c.in-Bracket.is in
-    let p = err_from_is_err_and c.from_residual-in_err-enter-in-Bracket.result c.from_residual-in_err-enter-in-Bracket.ensures.1 in
-    rw (p.1, p.2) (record { answer = bracket-barred c.see-seen.ensures is (barred c.in_err-enter-in-Bracket.ensures) })
+    stops (err_from_is_err_and c.from_residual-in_err-enter-in-Bracket.result c.from_residual-in_err-enter-in-Bracket.ensures.1) (bracket-barred c.see-seen.ensures is (barred c.in_err-enter-in-Bracket.ensures))
 
 pub factor-returns-in_err-sum-in-Bracket-clause-reads : goal.factor-returns-in_err-sum-in-Bracket-clause-reads
 factor-returns-in_err-sum-in-Bracket-clause-reads t c =
     let is = seen-taken c.see-seen.result _ c.in_ok-value.ensures c.in-Bracket.is in
-    let p = err_from_is_err_and c.from_residual-in_err-sum-in-Bracket.result c.from_residual-in_err-sum-in-Bracket.ensures.1 in
-    rw (p.1, p.2) (record { answer = bracket-refused c.see-seen.ensures is (entered c.in_ok-enter-in-Bracket.ensures) c.in_err-sum-in-Bracket.ensures.reads.answer })
+    stops (err_from_is_err_and c.from_residual-in_err-sum-in-Bracket.result c.from_residual-in_err-sum-in-Bracket.ensures.1) (bracket-refused c.see-seen.ensures is (entered c.in_ok-enter-in-Bracket.ensures) c.in_err-sum-in-Bracket.ensures.reads.answer)
 
 pub factor-returns-in_err-expect-in-Bracket-clause-reads : goal.factor-returns-in_err-expect-in-Bracket-clause-reads
 factor-returns-in_err-expect-in-Bracket-clause-reads t c =
     let is = seen-taken c.see-seen.result _ c.in_ok-value.ensures c.in-Bracket.is in
-    let p = err_from_is_err_and c.from_residual-in_err-expect-in-Bracket.result c.from_residual-in_err-expect-in-Bracket.ensures.1 in
     let sum = c.in_ok-sum-in-Bracket.ensures in
-    rw (p.1, p.2) (record { answer = bracket-unclosed c.see-seen.ensures is (entered c.in_ok-enter-in-Bracket.ensures) sum.reads.answer (missed sum.same c.in_err-expect-in-Bracket.ensures.answer) })
+    stops (err_from_is_err_and c.from_residual-in_err-expect-in-Bracket.result c.from_residual-in_err-expect-in-Bracket.ensures.1) (bracket-unclosed c.see-seen.ensures is (entered c.in_ok-enter-in-Bracket.ensures) sum.reads.answer (missed sum.same c.in_err-expect-in-Bracket.ensures.answer))
 
 pub factor-returns-in_ok-expect-in-Bracket-clause-reads : goal.factor-returns-in_ok-expect-in-Bracket-clause-reads
 factor-returns-in_ok-expect-in-Bracket-clause-reads t c =
@@ -45,21 +42,16 @@ factor-returns-in-Number-clause-reads t c =
 pub factor-returns-in-Name-clause-reads : goal.factor-returns-in-Name-clause-reads
 factor-returns-in-Name-clause-reads t c =
     let is = seen-taken c.see-seen.result _ c.in_ok-value.ensures c.in-Name.is in
-    let x : ℕ = c.in-Name.point in
-    let few : x < 64 = omega (arith, c.see-seen.ensures.named x (name-taken is), c.args.self.now.stands.listed) in
-    record { answer = name-read c.see-seen.ensures is c.args.self.now.stands.within (to_z w32 x) (to_z_pos w32 x (omega arith)) c.leaf-in-Name.ensures.value }
+    record { answer = name-read c.see-seen.ensures is c.args.self.now.stands.within c.args.self.now.stands.listed c.leaf-in-Name.ensures.value }
 
 pub factor-returns-in_err-value-clause-reads : goal.factor-returns-in_err-value-clause-reads
-factor-returns-in_err-value-clause-reads t c =
-    let p = err_from_is_err_and c.from_residual.result c.from_residual.ensures.1 in
-    rw (p.1, p.2) (record { answer = no-factor c.args.self.now.progress c.see-seen.ensures c.in_err-value.ensures })
+factor-returns-in_err-value-clause-reads t c = stops (err_from_is_err_and c.from_residual.result c.from_residual.ensures.1) (no-factor c.args.self.now.progress c.see-seen.ensures c.in_err-value.ensures)
 
 pub prod-returns-in_err-factor-2-clause-reads : goal.prod-returns-in_err-factor-2-clause-reads
 prod-returns-in_err-factor-2-clause-reads t c =
-    let p = err_from_is_err_and c.from_residual-in_err-factor-2.result c.from_residual-in_err-factor-2.ensures.1 in
     let same = c.more.invariant.2 ∙ c.in_ok-factor.ensures.same in
     let took = c.more.invariant.3 c.args.self.now c.in_ok-factor.ensures.same refl (prod-first c.in_ok-factor.ensures.reads.answer) in
-    rw (p.1, p.2) (record { answer = prod-refused took (here same c.see-seen.ensures) (sym c.in-Some-Multiplicative.ensures ∙ ap Some c.in-Some-Multiplicative.field-0-is) c.pass.ensures (on c.in_err-factor-2.ensures.reads same) })
+    stops (err_from_is_err_and c.from_residual-in_err-factor-2.result c.from_residual-in_err-factor-2.ensures.1) (prod-refused took (here same c.see-seen.ensures) (sym c.in-Some-Multiplicative.ensures ∙ ap Some c.in-Some-Multiplicative.field-0-is) c.pass.ensures (on c.in_err-factor-2.ensures.reads same))
 
 pub prod-more-preserved : goal.prod-more-preserved
 prod-more-preserved t c =
@@ -89,11 +81,10 @@ sum-returns-in_default-clause-reads t c =
 
 pub sum-returns-in_err-prod-2-clause-reads : goal.sum-returns-in_err-prod-2-clause-reads
 sum-returns-in_err-prod-2-clause-reads t c =
-    let p = err_from_is_err_and c.from_residual-in_err-prod-2.result c.from_residual-in_err-prod-2.ensures.1 in
     let same = c.more.invariant.2 ∙ c.in_ok-prod.ensures.same in
     let first = c.in_ok-prod.ensures.reads.answer in
     let took = c.more.invariant.3 c.args.self.now c.in_ok-prod.ensures.same refl (sum_first first.0 first.1) in
-    rw (p.1, p.2) (record { answer = sum-refused took (here same c.see-seen.ensures) (sym c.in-Some-Additive.ensures ∙ ap Some c.in-Some-Additive.field-0-is) c.pass.ensures (on c.in_err-prod-2.ensures.reads same) })
+    stops (err_from_is_err_and c.from_residual-in_err-prod-2.result c.from_residual-in_err-prod-2.ensures.1) (sum-refused took (here same c.see-seen.ensures) (sym c.in-Some-Additive.ensures ∙ ap Some c.in-Some-Additive.field-0-is) c.pass.ensures (on c.in_err-prod-2.ensures.reads same))
 
 pub sum-more-preserved : goal.sum-more-preserved
 sum-more-preserved t c =
