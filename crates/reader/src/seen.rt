@@ -1,12 +1,11 @@
 // The next token, as the grammar sees it.
 ghost use Rattle.std.specs.Prelude.{◌≡◌};
-ghost use Rattle.names.specs.Lines.{lines_of};
-ghost use Rattle.reader.specs.Ahead.{HereIs, refused_at};
+ghost use Rattle.grammar.specs.Choices.{operand_of, command_of};
+ghost use Rattle.reader.specs.Ahead.{refused_at, seen_as};
+ghost use Rattle.reader.specs.Reading.{reader_fault};
 
-use faults::ReaderCause;
-use grammar::{Lexeme, lexeme_of};
-use names::NameList;
-use scanner::{Cursor, Position};
+use faults::{Fault, Layer, ReaderCause};
+use grammar::{CommandStart, Lexeme, Operand};
 
 #[derive(Clone, Copy)]
 pub(crate) struct Seen {
@@ -23,30 +22,44 @@ pub(crate) struct Refusal {
     pub(crate) place: usize,
 }
 
-// The cursor holds the sheet and the position, and tells the token there.
-pub(crate) fn see(names: &NameList, text: &[u8], at: usize) -> Seen
-    ensures { HereIs (lines_of names.now.text.now) text.now at result }
-{
-    let cursor = Cursor {
-        text,
-        position: Position { at },
-    };
-    let token = cursor.peek();
-    Seen {
-        lexeme: lexeme_of(names, text, token),
-        place: token.start,
-        end: token.end,
+impl From<Refusal> for Fault {
+    ghost from_gives = { λ r f. f ≡ reader_fault r.cause r.place };
+
+    fn from(refusal: Refusal) -> Fault {
+        Fault::new(Layer::Reader(refusal.cause), refusal.place)
     }
 }
 
 impl Seen {
+    // What it is where a factor is wanted.
+    pub(crate) fn operand(self) -> Result<Operand, Refusal>
+        ensures { result ≡ seen_as self (operand_of self.lexeme) }
+    {
+        self.lexeme.operand().map_err(|cause| self.refused(cause))
+    }
+
+    // What it is where a command is wanted, or the end of its block.
+    pub(crate) fn command_start(self) -> Result<CommandStart, Refusal>
+        ensures { result ≡ seen_as self (command_of self.lexeme) }
+    {
+        self.lexeme
+            .command_start()
+            .map_err(|cause| self.refused(cause))
+    }
+
+    fn refused(self, cause: ReaderCause) -> Refusal
+        ensures { result ≡ record { cause = cause; place = self.place } }
+    {
+        Refusal {
+            cause,
+            place: self.place,
+        }
+    }
+
     // The refusal where no rule takes it.
     pub(crate) fn refusal(self) -> Refusal
         ensures { result ≡ refused_at self }
     {
-        Refusal {
-            cause: self.lexeme.refusal(),
-            place: self.place,
-        }
+        self.refused(self.lexeme.refusal())
     }
 }
