@@ -1,8 +1,6 @@
 -- The lexemes of a text, one at a time, and the machine over them. This is all that a reader of lexemes goes by.
-use Rattle.std.proofs.Common.{◌≡◌, ℕ, zero, suc, Bool, true, false, cond, ◌||◌, leb, List, [], ◌∷◌, Some, None, codes, Option, sym, refl, ap, ◌∙◌}
-use Rattle.std.specs.Str.{bytes_eq}
+use Rattle.std.proofs.Common.{◌≡◌, ℕ, zero, suc, Bool, cond, List, [], ◌∷◌, Some, None, Option, sym, refl, ap, ◌∙◌, arith}
 use Rattle.std.proofs.lemmas.Slice.Eq.{bytes_eq-Decides}
-use Rattle.std.proofs.lemmas.Bool.{cond_both, cond-true, cond-false}
 use Rattle.faults.specs.declared.causes.ReaderCause.{ReaderCause}
 use Rattle.scanner.specs.Tokens.{tokens_at, token_at, after, spelled}
 use Rattle.scanner.specs.Looks.{is_truth, kind_sight, symbol_sight, sight_of, seen_by, clue_ahead}
@@ -41,28 +39,11 @@ listed-passes None = refl
 
 word-sight : (names : List (List ℕ)) (w : List ℕ) → cond (is_truth w) Clue Passes ≡ sight_in (word_lexeme names w)
 word-sight names w =
-    cond_both (bytes_eq w (codes "if")) _ _ P (λ e. no_truth (codes "if") e refl) (λ _.
-    cond_both (bytes_eq w (codes "else")) _ _ P (λ e. no_truth (codes "else") e refl) (λ _.
-    cond_both (bytes_eq w (codes "while")) _ _ P (λ e. no_truth (codes "while") e refl) (λ _.
-    cond_both (bytes_eq w (codes "true")) _ _ P (λ t. cond-true _ _ _ (first t)) (λ n.
-    cond_both (bytes_eq w (codes "false")) _ _ P (λ f. cond-true _ _ _ (second n ∙ f)) (λ f.
-    cond-false _ _ _ (second n ∙ f) ∙ listed-passes (position w names))))))
-  where
-    P : Lexeme → Type 0
-    P x = cond (is_truth w) Clue Passes ≡ sight_in x
-
-    -- a word of the language that is no truth
-    no_truth : (v : List ℕ) → bytes_eq w v ≡ true → is_truth v ≡ false → cond (is_truth w) Clue Passes ≡ Passes
-    no_truth v e n = cond-false _ _ _ (ap is_truth ((bytes_eq-Decides w v).0 e) ∙ n)
-
-    first : bytes_eq w (codes "true") ≡ true → is_truth w ≡ true
-    first t = ap (λ (b : Bool). b || bytes_eq w (codes "false")) t
-
-    second : bytes_eq w (codes "true") ≡ false → is_truth w ≡ bytes_eq w (codes "false")
-    second n = ap (λ (b : Bool). b || bytes_eq w (codes "false")) n
+    let named = listed-passes (position w names) in
+    grind (arith, bytes_eq-Decides)
 
 number-sight : (n : ℕ) → Passes ≡ sight_in (number_lexeme n)
-number-sight n = cond_both (leb n 2147483647) _ _ (λ (x : Lexeme). Passes ≡ sight_in x) (λ _. refl) (λ _. refl)
+number-sight n = grind arith
 
 sign-sight : (s : Symbol) → symbol_sight s ≡ sight_in (sign_lexeme s)
 sign-sight symbol.OpenBlock = refl
