@@ -1,5 +1,5 @@
 -- The measure of a tree is its code's length, its depth, and the first of its rows that is too deep.
-use Rattle.std.proofs.Common.{◌≡◌, ℕ, ◌+◌, max, List, [], ◌∷◌, ◌++◌, Some, None, Option, sym, refl, ap, ◌∙◌}
+use Rattle.std.proofs.Common.{◌≡◌, ℕ, ◌+◌, max, List, [], ◌∷◌, ◌++◌, Some, None, Option, sym, refl, ap, ◌∙◌, arith}
 use Rattle.tables.specs.Trees.{Sum, Condition, Command, Sheet}
 use Rattle.folds.specs.CodeLengths.{sum_length, condition_length, command_length, sheet_length}
 use Rattle.folds.specs.StackDepths.{sum_depth, condition_depth, command_depth, sheet_depth}
@@ -24,12 +24,10 @@ abbrev pub sheet_measure : Sheet → Measure
 sheet_measure t = measure_of (sheet_length t) (sheet_depth t) (sheet_depths t)
 
 first-assoc : {X : Type 0} (a b c : Option X) → first_of a (first_of b c) ≡ first_of (first_of a b) c
-first-assoc None b c = refl
-first-assoc (Some x) b c = refl
+first-assoc a b c = grind arith
 
 first-none : {X : Type 0} (a : Option X) → first_of a None ≡ a
-first-none None = refl
-first-none (Some x) = refl
+first-none a = grind arith
 
 pub deep-append : (xs ys : List Depth) → first_deep (xs ++ ys) ≡ first_of (first_deep xs) (first_deep ys)
 deep-append [] ys = refl
