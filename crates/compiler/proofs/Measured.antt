@@ -35,36 +35,22 @@ deep-append (x ∷ xs) ys =
     ap (λ (o : Option ℕ). first_of (too_deep x.0 x.1) o) (deep-append xs ys)
     ∙ first-assoc (too_deep x.0 x.1) (first_deep xs) (first_deep ys)
 
-deep-last : (xs : List Depth) (d q : ℕ) → first_of (first_deep xs) (too_deep d q) ≡ first_deep (xs ++ (d, q) ∷ [])
+pub deep-last : (xs : List Depth) (d q : ℕ) → first_of (first_deep xs) (too_deep d q) ≡ first_deep (xs ++ (d, q) ∷ [])
 deep-last xs d q =
     ap (λ (o : Option ℕ). first_of (first_deep xs) o) (sym (first-none (too_deep d q))) ∙ sym (deep-append xs ((d, q) ∷ []))
 
-deep-two : (xs ys : List Depth) (d q : ℕ) → first_of (first_of (first_deep xs) (first_deep ys)) (too_deep d q) ≡ first_deep (xs ++ (ys ++ (d, q) ∷ []))
+pub deep-two : (xs ys : List Depth) (d q : ℕ) → first_of (first_of (first_deep xs) (first_deep ys)) (too_deep d q) ≡ first_deep (xs ++ (ys ++ (d, q) ∷ []))
 deep-two xs ys d q =
     sym (first-assoc (first_deep xs) (first_deep ys) (too_deep d q))
     ∙ ap (λ (o : Option ℕ). first_of (first_deep xs) o) (deep-last ys d q)
     ∙ sym (deep-append xs (ys ++ (d, q) ∷ []))
 
-deep-three : (xs ys zs : List Depth) (d q : ℕ) → first_of (first_of (first_deep xs) (first_of (first_deep ys) (first_deep zs))) (too_deep d q) ≡ first_deep (xs ++ (ys ++ (zs ++ (d, q) ∷ [])))
+pub deep-three : (xs ys zs : List Depth) (d q : ℕ) → first_of (first_of (first_deep xs) (first_of (first_deep ys) (first_deep zs))) (too_deep d q) ≡ first_deep (xs ++ (ys ++ (zs ++ (d, q) ∷ [])))
 deep-three xs ys zs d q =
     sym (first-assoc (first_deep xs) (first_of (first_deep ys) (first_deep zs)) (too_deep d q))
     ∙ ap (λ (o : Option ℕ). first_of (first_deep xs) o) (deep-two ys zs d q)
     ∙ sym (deep-append xs (ys ++ (zs ++ (d, q) ∷ [])))
 
--- by how many parts there are
-
-pub one-measure : (s : Shape) (q n d n' : ℕ) (xs : List Depth) → n + own_length s ≡ n' → one_measure s q (measure_of n d xs) ≡ measure_of n' d (xs ++ (d, q) ∷ [])
-one-measure s q n d n' xs e =
-    ap (λ (k : ℕ). judged q k d (first_deep xs)) e
-    ∙ ap (λ (o : Option ℕ). record { length = n'; depth = d; deep = o }) (deep-last xs d q)
-
-pub two-measure : (s : Shape) (q m d n e k f : ℕ) (xs ys : List Depth) → m + n + own_length s ≡ k → two_depth s d e ≡ f → two_measure s q (measure_of m d xs) (measure_of n e ys) ≡ measure_of k f (xs ++ (ys ++ (f, q) ∷ []))
-two-measure s q m d n e k f xs ys g h =
-    ap (λ (j : ℕ). judged q j (two_depth s d e) (first_of (first_deep xs) (first_deep ys))) g
-    ∙ ap (λ (j : ℕ). judged q k j (first_of (first_deep xs) (first_deep ys))) h
-    ∙ ap (λ (o : Option ℕ). record { length = k; depth = f; deep = o }) (deep-two xs ys f q)
-
-pub three-measure : (q m d n e k f j : ℕ) (xs ys zs : List Depth) → m + n + k + 2 ≡ j → three_measure q (measure_of m d xs) (measure_of n e ys) (measure_of k f zs) ≡ measure_of j (max d (max e f)) (xs ++ (ys ++ (zs ++ (max d (max e f), q) ∷ [])))
-three-measure q m d n e k f j xs ys zs g =
-    ap (λ (i : ℕ). judged q i (max d (max e f)) (first_of (first_deep xs) (first_of (first_deep ys) (first_deep zs)))) g
-    ∙ ap (λ (o : Option ℕ). record { length = j; depth = max d (max e f); deep = o }) (deep-three xs ys zs (max d (max e f)) q)
+pub measured : {m n d : ℕ} {o o' : Option ℕ} → m ≡ n → o ≡ o' → ◌≡◌ {A = Measure} (record { length = m; depth = d; deep = o }) (record { length = n; depth = d; deep = o' })
+measured {n = n} {d = d} {o = o} e f =
+    ap (λ (k : ℕ). record { length = k; depth = d; deep = o }) e ∙ ap (λ (p : Option ℕ). record { length = n; depth = d; deep = p }) f
