@@ -1,12 +1,10 @@
 -- The measure of a tree is its code's length, its depth, and the first of its rows that is too deep.
-use Rattle.std.proofs.Common.{◌≡◌, ℕ, ◌+◌, max, List, [], ◌∷◌, ◌++◌, Some, None, Option, sym, refl, ap, ◌∙◌, arith}
+use Rattle.std.proofs.Common.{◌≡◌, ℕ, List, [], ◌∷◌, ◌++◌, None, Option, sym, refl, ap, ◌∙◌, arith}
 use Rattle.tables.specs.Trees.{Sum, Condition, Command, Sheet}
 use Rattle.folds.specs.CodeLengths.{sum_length, condition_length, command_length, sheet_length}
 use Rattle.folds.specs.StackDepths.{sum_depth, condition_depth, command_depth, sheet_depth}
-use Rattle.compiler.specs.declared.shape.Shape.{Shape}
 use Rattle.compiler.specs.declared.measure.Measure.{Measure}
 use Rattle.compiler.specs.Depths.{Depth, first_of, too_deep, first_deep, sum_depths, condition_depths, command_depths, sheet_depths}
-use Rattle.compiler.specs.Measures.{own_length, two_depth, judged, one_measure, two_measure, three_measure}
 
 abbrev pub measure_of : ℕ → ℕ → List Depth → Measure
 measure_of n d xs = record { length = n; depth = d; deep = first_deep xs }

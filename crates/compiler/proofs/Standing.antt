@@ -1,5 +1,5 @@
 -- Where a tree's rows stand in a table, the tree stands there as a part, with its measure and its code.
-use Rattle.std.proofs.Common.{◌≡◌, ℕ, suc, ◌+◌, ◌-◌, ◌<◌, max, Bool, cond, List, [], ◌∷◌, ◌++◌, length, get_or, pos, sym, refl, ap, ◌∙◌, subst, append-nil, arith}
+use Rattle.std.proofs.Common.{◌≡◌, ℕ, suc, ◌+◌, ◌-◌, ◌<◌, Bool, cond, List, [], ◌∷◌, ◌++◌, length, get_or, pos, sym, refl, ap, ◌∙◌, subst, append-nil, arith}
 use Rattle.std.proofs.lemmas.List.{append_assoc, length-append, get_or_at}
 use Rattle.std.proofs.lemmas.Bool.{lt-ltb}
 use Rattle.arith.specs.declared.operator.Operator.{Operator}
@@ -14,9 +14,7 @@ use Rattle.tables.specs.Trees.{Sum, number, name, work, Connective, both, either
 use Rattle.tables.specs.Rows.{blank, row, bit, operator_kind, connective_kind, sum_rows, condition_rows, command_rows, sheet_rows, sum_size, condition_size, command_size, sheet_size}
 use Rattle.tables.specs.Tables.{SumOver, ConditionOver, CommandOver, SheetOver}
 use Rattle.tables.proofs.OfSort.{length-in}
-use Rattle.folds.specs.CodeLengths.{sum_length, condition_length, command_length, sheet_length}
-use Rattle.folds.specs.StackDepths.{sum_depth, condition_depth, command_depth, sheet_depth}
-use Rattle.compiler.specs.Depths.{Depth, sum_depths, condition_depths, command_depths, sheet_depths}
+use Rattle.compiler.specs.Depths.{sum_depths, condition_depths, command_depths, sheet_depths}
 use Rattle.compiler.proofs.Sheeting.{comparison-back}
 use Rattle.compiler.specs.declared.shape.Shape.{Shape}
 use Rattle.compiler.specs.declared.shape.Shape.TheVariants as shape

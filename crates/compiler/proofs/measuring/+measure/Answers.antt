@@ -2,7 +2,7 @@
 use Rattle.std.proofs.Common.{◌≡◌, arith, rules}
 use Rattle.compiler.specs.Measures.{part_count}
 use Rattle.compiler.specs.Parts.{shape_at}
-use Rattle.compiler.proofs.Parting.{some_row, last-part, small, two-of, three-of, measured-two, measured-three, standing-at}
+use Rattle.compiler.proofs.Parting.{last-part, small, two-of, three-of, measured-two, measured-three, standing-at}
 use Rattle.compiler.proofs.measuring.+measure.Goals as goal
 
 -- one part

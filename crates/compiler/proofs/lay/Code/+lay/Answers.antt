@@ -1,7 +1,6 @@
 -- Every call has room for its part, and what the parts and the row's own lines come to is the row's code.
 use Rattle.std.proofs.Common.{◌<◌, refl, ap, arith, rules}
 use Rattle.tables.specs.declared.row.Row.{Row}
-use Rattle.compiler.specs.declared.shape.Shape.TheVariants as shape
 use Rattle.compiler.specs.Measures.{part_count}
 use Rattle.compiler.proofs.Parting.{some_row, last-part}
 use Rattle.compiler.proofs.Laying.{shaped, lines-own, lays-leaf, one-space, lays-not, lays-set, left-room, gap-space, right-room, right-space, lays-pair, lays-joint, lays-if, lays-while, first-room, first-gap, second_room, second-gap, third-room, third-space, lays-choose, moved-none, moved-step, moved-line, moved-put, moved-then, free, kept, gap-kept, first-kept, second-kept, space-after}
@@ -57,11 +56,11 @@ pub lay-lay-requires-in-Pair-2 : goal.lay-lay-requires-in-Pair-2
 lay-lay-requires-in-Pair-2 t c =
     let f = shaped c.requires c.row-row.ensures c.of.ensures c.in-Pair.is in
     let some = some_row _ _ c.args.node.stands in
-    (search rules, right-room c.requires f refl c.two.ensures.left c.two.ensures.right c.lay-in-Pair.ensures moved-none (omega arith))
+    (search rules, right-room c.requires f refl c.two.ensures.left c.lay-in-Pair.ensures moved-none (omega arith) c.two.ensures.right)
 
 pub lay-put-requires-in-Pair : goal.lay-put-requires-in-Pair
 lay-put-requires-in-Pair t c =
-    free (right-space c.requires (shaped c.requires c.row-row.ensures c.of.ensures c.in-Pair.is) refl 1 c.two.ensures.left c.two.ensures.right c.lay-in-Pair.ensures moved-none c.lay-in-Pair-2.ensures (omega arith)) (omega arith)
+    free (right-space c.requires (shaped c.requires c.row-row.ensures c.of.ensures c.in-Pair.is) refl c.two.ensures.left c.lay-in-Pair.ensures moved-none (omega arith) c.two.ensures.right c.lay-in-Pair-2.ensures 1 (omega arith)) (omega arith)
 
 pub lay-returns-in-Pair : goal.lay-returns-in-Pair
 lay-returns-in-Pair t c =
@@ -77,7 +76,7 @@ pub lay-lay-requires-in-Joint-2 : goal.lay-lay-requires-in-Joint-2
 lay-lay-requires-in-Joint-2 t c =
     let f = shaped c.requires c.row-row.ensures c.of.ensures c.in-Joint.is in
     let some = some_row _ _ c.args.node.stands in
-    (search rules, right-room c.requires f refl c.two-in-Joint.ensures.left c.two-in-Joint.ensures.right c.lay-in-Joint.ensures moved-none (omega arith))
+    (search rules, right-room c.requires f refl c.two-in-Joint.ensures.left c.lay-in-Joint.ensures moved-none (omega arith) c.two-in-Joint.ensures.right)
 
 pub lay-returns-in-Joint : goal.lay-returns-in-Joint
 lay-returns-in-Joint t c =
@@ -97,17 +96,17 @@ lay_if-skip-jump-requires t c =
 pub lay_if-lay-requires-2 : goal.lay_if-lay-requires-2
 lay_if-lay-requires-2 t c =
     let some = some_row _ _ c.args.node.stands in
-    (search rules, right-room c.requires.part c.requires.shape refl c.two.ensures.left c.two.ensures.right c.lay.ensures (moved-step c.skip-jump.ensures.next) (omega arith))
+    (search rules, right-room c.requires.part c.requires.shape refl c.two.ensures.left c.lay.ensures (moved-step c.skip-jump.ensures.next) (omega arith) c.two.ensures.right)
 
 pub lay_if-overflow_cast-self : goal.lay_if-overflow_cast-self
 lay_if-overflow_cast-self t c =
-    let s = right-space c.requires.part c.requires.shape refl 0 c.two.ensures.left c.two.ensures.right c.lay.ensures (moved-step c.skip-jump.ensures.next) c.lay-2.ensures (omega arith) in
+    let s = right-space c.requires.part c.requires.shape refl c.two.ensures.left c.lay.ensures (moved-step c.skip-jump.ensures.next) (omega arith) c.two.ensures.right c.lay-2.ensures 0 (omega arith) in
     let fits : c.lay-2.new.self.next < 2048 = omega (arith, s.short) in
     search rules
 
 pub lay_if-put_at-requires : goal.lay_if-put_at-requires
 lay_if-put_at-requires t c =
-    gap-kept c.requires.part c.requires.shape refl c.two.ensures.left c.two.ensures.right c.lay.ensures c.skip-jump.ensures.address (moved-step c.skip-jump.ensures.next) c.lay-2.ensures (omega arith) (omega arith)
+    gap-kept c.requires.part c.requires.shape refl c.two.ensures.left c.lay.ensures (moved-step c.skip-jump.ensures.next) (omega arith) c.two.ensures.right c.lay-2.ensures c.skip-jump.ensures.address (omega arith)
 
 pub lay_if-returns : goal.lay_if-returns
 lay_if-returns t c =
@@ -127,21 +126,21 @@ lay_while-skip-out-requires t c =
 pub lay_while-lay-requires-2 : goal.lay_while-lay-requires-2
 lay_while-lay-requires-2 t c =
     let some = some_row _ _ c.args.node.stands in
-    (search rules, right-room c.requires.part c.requires.shape refl c.two.ensures.left c.two.ensures.right c.lay.ensures (moved-step c.skip-out.ensures.next) (omega arith))
+    (search rules, right-room c.requires.part c.requires.shape refl c.two.ensures.left c.lay.ensures (moved-step c.skip-out.ensures.next) (omega arith) c.two.ensures.right)
 
 pub lay_while-put-requires : goal.lay_while-put-requires
 lay_while-put-requires t c =
-    free (right-space c.requires.part c.requires.shape refl 1 c.two.ensures.left c.two.ensures.right c.lay.ensures (moved-step c.skip-out.ensures.next) c.lay-2.ensures (omega arith)) (omega arith)
+    free (right-space c.requires.part c.requires.shape refl c.two.ensures.left c.lay.ensures (moved-step c.skip-out.ensures.next) (omega arith) c.two.ensures.right c.lay-2.ensures 1 (omega arith)) (omega arith)
 
 pub lay_while-overflow_cast-self : goal.lay_while-overflow_cast-self
 lay_while-overflow_cast-self t c =
-    let s = space-after 0 (right-space c.requires.part c.requires.shape refl 1 c.two.ensures.left c.two.ensures.right c.lay.ensures (moved-step c.skip-out.ensures.next) c.lay-2.ensures (omega arith)) (moved-put _ _ c.put.ensures) (omega arith) in
+    let s = space-after 0 (right-space c.requires.part c.requires.shape refl c.two.ensures.left c.lay.ensures (moved-step c.skip-out.ensures.next) (omega arith) c.two.ensures.right c.lay-2.ensures 1 (omega arith)) (moved-put _ _ c.put.ensures) (omega arith) in
     let fits : c.put.new.self.next < 2048 = omega (arith, s.short) in
     search rules
 
 pub lay_while-put_at-requires : goal.lay_while-put_at-requires
 lay_while-put_at-requires t c =
-    kept (gap-kept c.requires.part c.requires.shape refl c.two.ensures.left c.two.ensures.right c.lay.ensures c.skip-out.ensures.address (moved-step c.skip-out.ensures.next) c.lay-2.ensures (omega arith) (omega arith)) (moved-put _ _ c.put.ensures)
+    kept (gap-kept c.requires.part c.requires.shape refl c.two.ensures.left c.lay.ensures (moved-step c.skip-out.ensures.next) (omega arith) c.two.ensures.right c.lay-2.ensures c.skip-out.ensures.address (omega arith)) (moved-put _ _ c.put.ensures)
 
 pub lay_while-returns : goal.lay_while-returns
 lay_while-returns t c =
@@ -161,36 +160,36 @@ lay_if_else-skip-to_other-requires t c =
 pub lay_if_else-lay-requires-2 : goal.lay_if_else-lay-requires-2
 lay_if_else-lay-requires-2 t c =
     let some = some_row _ _ c.args.node.stands in
-    (search rules, second_room c.requires.part c.requires.shape c.three.ensures.first c.three.ensures.second c.lay.ensures c.skip-to_other.ensures.next)
+    (search rules, second_room c.requires.part c.requires.shape c.three.ensures.first c.lay.ensures c.skip-to_other.ensures.next c.three.ensures.second)
 
 pub lay_if_else-skip-to_end-requires : goal.lay_if_else-skip-to_end-requires
 lay_if_else-skip-to_end-requires t c =
-    (free (second-gap c.requires.part c.requires.shape c.three.ensures.first c.three.ensures.second c.lay.ensures c.skip-to_other.ensures.next c.lay-2.ensures) (omega arith)).0
+    (free (second-gap c.requires.part c.requires.shape c.three.ensures.first c.lay.ensures c.skip-to_other.ensures.next c.three.ensures.second c.lay-2.ensures) (omega arith)).0
 
 pub lay_if_else-overflow_cast-self : goal.lay_if_else-overflow_cast-self
 lay_if_else-overflow_cast-self t c =
-    let s = space-after 0 (second-gap c.requires.part c.requires.shape c.three.ensures.first c.three.ensures.second c.lay.ensures c.skip-to_other.ensures.next c.lay-2.ensures) (moved-step c.skip-to_end.ensures.next) (omega arith) in
+    let s = space-after 0 (second-gap c.requires.part c.requires.shape c.three.ensures.first c.lay.ensures c.skip-to_other.ensures.next c.three.ensures.second c.lay-2.ensures) (moved-step c.skip-to_end.ensures.next) (omega arith) in
     let fits : c.skip-to_end.new.self.next < 2048 = omega (arith, s.short) in
     search rules
 
 pub lay_if_else-put_at-requires : goal.lay_if_else-put_at-requires
 lay_if_else-put_at-requires t c =
-    kept (first-kept c.requires.part c.requires.shape c.three.ensures.first c.three.ensures.second c.lay.ensures c.skip-to_other.ensures.address c.skip-to_other.ensures.next c.lay-2.ensures) (moved-step c.skip-to_end.ensures.next)
+    kept (first-kept c.requires.part c.requires.shape c.three.ensures.first c.lay.ensures c.skip-to_other.ensures.next c.three.ensures.second c.lay-2.ensures c.skip-to_other.ensures.address) (moved-step c.skip-to_end.ensures.next)
 
 pub lay_if_else-lay-requires-3 : goal.lay_if_else-lay-requires-3
 lay_if_else-lay-requires-3 t c =
     let some = some_row _ _ c.args.node.stands in
-    (search rules, third-room c.requires.part c.requires.shape c.three.ensures.first c.three.ensures.second c.three.ensures.third c.lay.ensures c.skip-to_other.ensures.next c.lay-2.ensures (moved-then (moved-step c.skip-to_end.ensures.next) (moved-line _ _ _ c.put_at.ensures)))
+    (search rules, third-room c.requires.part c.requires.shape c.three.ensures.first c.lay.ensures c.skip-to_other.ensures.next c.three.ensures.second c.lay-2.ensures (moved-then (moved-step c.skip-to_end.ensures.next) (moved-line _ _ _ c.put_at.ensures)) c.three.ensures.third)
 
 pub lay_if_else-overflow_cast-self-2 : goal.lay_if_else-overflow_cast-self-2
 lay_if_else-overflow_cast-self-2 t c =
-    let s = third-space c.requires.part c.requires.shape c.three.ensures.first c.three.ensures.second c.three.ensures.third c.lay.ensures c.skip-to_other.ensures.next c.lay-2.ensures (moved-then (moved-step c.skip-to_end.ensures.next) (moved-line _ _ _ c.put_at.ensures)) c.lay-3.ensures in
+    let s = third-space c.requires.part c.requires.shape c.three.ensures.first c.lay.ensures c.skip-to_other.ensures.next c.three.ensures.second c.lay-2.ensures (moved-then (moved-step c.skip-to_end.ensures.next) (moved-line _ _ _ c.put_at.ensures)) c.three.ensures.third c.lay-3.ensures in
     let fits : c.lay-3.new.self.next < 2048 = omega (arith, s.short) in
     search rules
 
 pub lay_if_else-put_at-requires-2 : goal.lay_if_else-put_at-requires-2
 lay_if_else-put_at-requires-2 t c =
-    second-kept c.requires.part c.requires.shape c.three.ensures.first c.three.ensures.second c.three.ensures.third c.lay.ensures c.skip-to_other.ensures.next c.lay-2.ensures c.skip-to_end.ensures.address (moved-then (moved-step c.skip-to_end.ensures.next) (moved-line _ _ _ c.put_at.ensures)) c.lay-3.ensures
+    second-kept c.requires.part c.requires.shape c.three.ensures.first c.lay.ensures c.skip-to_other.ensures.next c.three.ensures.second c.lay-2.ensures (moved-then (moved-step c.skip-to_end.ensures.next) (moved-line _ _ _ c.put_at.ensures)) c.three.ensures.third c.lay-3.ensures c.skip-to_end.ensures.address
 
 pub lay_if_else-returns : goal.lay_if_else-returns
 lay_if_else-returns t c =
