@@ -102,17 +102,11 @@ take-over [] zs l = refl
 take-over (x ∷ xs) [] l = absurd (omega arith)
 take-over (x ∷ xs) (z ∷ zs) l = ap (λ (ys : List _). x ∷ ys) (take-over xs zs (omega arith))
 
-err-ok : {X : Type 0} {x : X} {f : Fault} → ◌≡◌ {A = Result X Fault} (Err f) (Ok x) → ⊥
-err-ok e = let z : ◌≡◌ {A = ℕ} 0 1 = cc in omega arith
-
-same_ok : {m n : ℕ} → ◌≡◌ {A = Result ℕ Fault} (Ok m) (Ok n) → m ≡ n
-same_ok e = cc
-
 module _ (c : ℕ) (rows : List Row) (I : List Instruction) (P : List ℕ) (r : Result ℕ Fault) (I1 : List Instruction) (P1 : List ℕ) where
   lays-at : (o : Option Fault) → refusal c rows (min (length I) (length P)) ≡ o → (r, I1, P1) ≡ outcome o (sheet_of rows) I P → LaysCode rows r I1 P1
   lays-at (Some f) e g t n listed is =
       let h : r ≡ Err f = ap (λ (x : Outcome). x.0) g in
-      absurd (err-ok (sym h ∙ is))
+      cc
   lays-at None e g t n listed is =
       let S = passed c (min (length I) (length P)) rows e in
       let same : sheet_of rows ≡ t = sheet-of t rows listed in
@@ -123,7 +117,7 @@ module _ (c : ℕ) (rows : List Row) (I : List Instruction) (P : List ℕ) (r : 
       let p-is : P1 ≡ over (places_of (sheet_code 0 t)) P = ap (λ (x : Outcome). x.2) g' in
       let o : SheetOver 64 t = subst (SheetOver 64) tree (sheet-more c 64 S.few S.table.tree S.table.over) in
       let long = code-long t o in
-      let n-is : n ≡ sheet_length t = same_ok (sym is ∙ r-is) in
+      let n-is : n ≡ sheet_length t = cc in
       let li = length-instructions (sheet_code 0 t) in
       let lp = length-places (sheet_code 0 t) in
       let room : sheet_length t ≤ min (length I) (length P) = subst (λ (u : Sheet). sheet_length u ≤ min (length I) (length P)) tree S.slots-enough in
@@ -151,11 +145,8 @@ module _ (c : ℕ) (rows : List Row) (I : List Instruction) (P : List ℕ) (r : 
   takes_at (Some f) e g =
       record {
         only = λ h. absurd (false≢true (sym (ap is_ok g) ∙ h));
-        each = λ k. absurd (some-none (sym e ∙ not_refused c (min (length I) (length P)) rows k));
+        each = λ k. let free = not_refused c (min (length I) (length P)) rows k in cc;
       }
-    where
-      some-none : {x : Fault} → ◌≡◌ {A = Option Fault} (Some x) None → ⊥
-      some-none e = let z : ◌≡◌ {A = ℕ} 0 1 = cc in omega arith
   takes_at None e g =
       let S = passed c (min (length I) (length P)) rows e in
       record {
@@ -176,7 +167,7 @@ module _ (c : ℕ) (rows : List Row) (I : List Instruction) (P : List ℕ) (r : 
   tells_at : (o : Option Fault) → refusal c rows (min (length I) (length P)) ≡ o → (r, I1, P1) ≡ outcome o (sheet_of rows) I P → LaysCode rows r I1 P1 → OneCode rows r I1
   tells_at (Some f) e g l n is =
       let h : r ≡ Err f = ap (λ (x : Outcome). x.0) g in
-      absurd (err-ok (sym h ∙ is))
+      cc
   tells_at None e g l n is =
       let S = passed c (min (length I) (length P)) rows e in
       one_code_lem rows r I1 P1 S.table.tree S.table.listed l n is

@@ -50,21 +50,24 @@ lines-around {xs} {ys} {C} {D} {D'} {E} {F} {j} i q f at skip g e =
     })
 
 -- the line of a row of sums or conditions
-pub lines-own : (R : List Row) (e : ℕ) {C D : Code} {r : Row} {i : Instruction} → r ≡ get_or R (e - 1) blank → i ≡ operation r.kind r.value → D ≡ stepped (with_line C C.next i r.place) → Lines (own (get_or R (e - 1) blank) ∷ []) C D
-lines-own R e {C} {D} {r} {i} f g h =
+pub lines-own : {R : List Row} {e : ℕ} {A : Code} → HasRoomIn R e A → {C D : Code} {r : Row} {i : Instruction} → r ≡ get_or R (e - 1) blank → i ≡ operation r.kind r.value → D ≡ stepped (with_line C C.next i r.place) → Lines (own (get_or R (e - 1) blank) ∷ []) C D
+lines-own _ {C} {D} {r} {i} f g h =
     lines-put _ _ (h ∙ ap (λ (x : Instruction). stepped (with_line C C.next x r.place)) g ∙ ap (λ (x : Row). stepped (with_line C C.next (operation x.kind x.value) x.place)) f)
 
 -- where a node says that it stands
 
-pub room-at : {R R' : List Row} {e e' a i p : ℕ} {v : Part} → (R' ≡ R) × (e' ≡ e) → Room R e a i p v → Room R' e' a i p v
+abbrev At : List Row → ℕ → List Row → ℕ → Type 0
+At R e R' e' = (R' ≡ R) × (e' ≡ e)
+
+pub room-at : {R R' : List Row} {e e' a i p : ℕ} {v : Part} → At R e R' e' → Room R e a i p v → Room R' e' a i p v
 room-at h r = record { stands = standing-at h r.stands; slots = r.slots; places = r.places; short = r.short }
 
-pub lines-of : {R R' : List Row} {e e' : ℕ} {v : Part} {C D : Code} → (R' ≡ R) × (e' ≡ e) → LaysPart R' e' C D → Room R e C.next (length C.instructions.now) (length C.places.now) v → Lines (v.code C.next) C D
+pub lines-of : {R R' : List Row} {e e' : ℕ} {v : Part} {C D : Code} → At R e R' e' → LaysPart R' e' C D → Room R e C.next (length C.instructions.now) (length C.places.now) v → Lines (v.code C.next) C D
 lines-of {v = v} h l r = record { laid = l.laid v (room-at h r); instructions = l.instructions; places = l.places }
 
-pub lays-part : (R : List Row) (e : ℕ) (C D : Code) → HasRoomIn R e C → ((v : Part) → Room R e C.next (length C.instructions.now) (length C.places.now) v → Lines (v.code C.next) C D) → LaysPart R e C D
-lays-part R e C D h f =
-    let l = f h.0 h.1 in
+pub lays-part : {R : List Row} {e : ℕ} {C D : Code} → HasRoomIn R e C → ((v : Part) → Room R e C.next (length C.instructions.now) (length C.places.now) v → Lines (v.code C.next) C D) → LaysPart R e C D
+lays-part h f =
+    let l = f h.room.0 h.room.1 in
     record { laid = λ v r. (f v r).laid; instructions = l.instructions; places = l.places }
 
 -- how far the next address has moved on, in lists of the same lengths
@@ -148,251 +151,237 @@ kept h d = (omega (arith, h.0, d.instructions), omega (arith, h.1, d.places))
 
 -- no parts
 
-module _ (R : List Row) (e : ℕ) (C : Code) (h : HasRoomIn R e C) (k : part_count (shape_at R e) ≡ 0) where
-  leaf-lines : {D : Code} → Lines (own (get_or R (e - 1) blank) ∷ []) C D → Lines (h.0.code C.next) C D
-  leaf-lines l = relaid (sym (ap (λ (w : Part). w.code C.next) (zero_of R e h.0 h.1.stands k))) l
+module _ {R : List Row} {e : ℕ} {C : Code} (h : HasRoomIn R e C) (k : part_count (shape_at R e) ≡ 0) where
+  leaf-lines : {D : Code} → Lines (own (get_or R (e - 1) blank) ∷ []) C D → Lines (h.room.0.code C.next) C D
+  leaf-lines l = relaid (sym (ap (λ (w : Part). w.code C.next) (zero_of R e h.room.0 h.room.1.stands k))) l
 
-pub lays-leaf : (R : List Row) (e : ℕ) (C : Code) (h : HasRoomIn R e C) → shape_at R e ≡ shape.Leaf → {D : Code} → Lines (own (get_or R (e - 1) blank) ∷ []) C D → LaysPart R e C D
-lays-leaf R e C h f l = lays-part R e C _ h (λ v r. leaf-lines R e C (v, r) (ap part_count f) l)
+pub lays-leaf : {R : List Row} {e : ℕ} {C : Code} (h : HasRoomIn R e C) → shape_at R e ≡ shape.Leaf → {D : Code} → Lines (own (get_or R (e - 1) blank) ∷ []) C D → LaysPart R e C D
+lays-leaf h f l = lays-part h (λ v r. leaf-lines (record { room = (v, r) }) (ap part_count f) l)
 
 -- one part
 
-module _ (R : List Row) (e : ℕ) (C : Code) (h : HasRoomIn R e C) (s : Shape) (f : shape_at R e ≡ s) (k : part_count s ≡ 1) where
-  pub one : OneOf R e h.0
-  one = one_of R e h.0 h.1.stands (ap part_count f ∙ k)
+module _ {R : List Row} {e : ℕ} {C : Code} (h : HasRoomIn R e C) {s : Shape} (f : shape_at R e ≡ s) (k : part_count s ≡ 1) where
+  pub one : OneOf R e h.room.0
+  one = one_of R e h.room.0 h.room.1.stands (ap part_count f ∙ k)
 
-  one-total : h.0.measure.length ≡ one.x.measure.length + own_length s
+  one-total : h.room.0.measure.length ≡ one.x.measure.length + own_length s
   one-total = ap (λ (w : Part). w.measure.length) one.is ∙ ap (λ (z : Shape). one.x.measure.length + own_length z) f
 
   one-room : Room R (e - 1) C.next (length C.instructions.now) (length C.places.now) one.x
-  one-room = let t = one-total in room-of {C = C} one.part (space-for {C = C} (space-of {C = C} h.1) (omega arith))
+  one-room = let t = one-total in room-of {C = C} one.part (space-for {C = C} (space-of {C = C} h.room.1) (omega arith))
 
-  one-lines : {R1 : List Row} {e1 : ℕ} {D : Code} → (R1 ≡ R) × (e1 ≡ e - 1) → LaysPart R1 e1 C D → Lines (one.x.code C.next) C D
+  one-lines : {R1 : List Row} {e1 : ℕ} {D : Code} → At R (e - 1) R1 e1 → LaysPart R1 e1 C D → Lines (one.x.code C.next) C D
   one-lines p l = lines-of p l one-room
 
-  pub one-space : {R1 : List Row} {e1 : ℕ} {D : Code} → (R1 ≡ R) × (e1 ≡ e - 1) → LaysPart R1 e1 C D → Space (own_length s) D
+  pub one-space : {R1 : List Row} {e1 : ℕ} {D : Code} → At R (e - 1) R1 e1 → LaysPart R1 e1 C D → Space (own_length s) D
   one-space p l =
       let t = one-total in
-      space-after _ (space-of {C = C} h.1) (moved-lines one.part (one-lines p l)) (omega arith)
+      space-after _ (space-of {C = C} h.room.1) (moved-lines one.part (one-lines p l)) (omega arith)
 
-  one-code : one_code s (get_or R (e - 1) blank) (one.x.code C.next) ≡ h.0.code C.next
+  one-code : one_code s (get_or R (e - 1) blank) (one.x.code C.next) ≡ h.room.0.code C.next
   one-code = ap (λ (z : Shape). one_code z (get_or R (e - 1) blank) (one.x.code C.next)) (sym f) ∙ sym (ap (λ (w : Part). w.code C.next) one.is)
 
-pub lays-not : (R : List Row) (e : ℕ) (C : Code) (h : HasRoomIn R e C) (f : shape_at R e ≡ shape.Not) {R1 : List Row} {e1 : ℕ} {D E : Code} → (R1 ≡ R) × (e1 ≡ e - 1) → LaysPart R1 e1 C D → Lines (own (get_or R (e - 1) blank) ∷ []) D E → LaysPart R e C E
-lays-not R e C h f p l l' =
-    lays-part R e C _ h (λ v r. relaid (one-code R e C (v, r) shape.Not f refl) (lines-then (one-lines R e C (v, r) shape.Not f refl p l) l'))
+pub lays-not : {R : List Row} {e : ℕ} {C : Code} (h : HasRoomIn R e C) (f : shape_at R e ≡ shape.Not) {R1 : List Row} {e1 : ℕ} {D E : Code} → At R (e - 1) R1 e1 → LaysPart R1 e1 C D → Lines (own (get_or R (e - 1) blank) ∷ []) D E → LaysPart R e C E
+lays-not h f p l l' =
+    lays-part h (λ v r. relaid (one-code (record { room = (v, r) }) f refl) (lines-then (one-lines (record { room = (v, r) }) f refl p l) l'))
 
-pub lays-set : (R : List Row) (e : ℕ) (C : Code) (h : HasRoomIn R e C) (f : shape_at R e ≡ shape.Set) {R1 : List Row} {e1 x : ℕ} {r : Row} {D E F : Code} → (R1 ≡ R) × (e1 ≡ e - 1) → LaysPart R1 e1 C D → r ≡ get_or R (e - 1) blank → x ≡ point_of r.value → E ≡ stepped (with_line D D.next (Save x) r.place) → F ≡ stepped (with_line E E.next Pop r.place) → LaysPart R e C F
-lays-set R e C h f {r = r} {D = D} {E = E} {F = F} p l g i j k =
+pub lays-set : {R : List Row} {e : ℕ} {C : Code} (h : HasRoomIn R e C) (f : shape_at R e ≡ shape.Set) {R1 : List Row} {e1 x : ℕ} {r : Row} {D E F : Code} → At R (e - 1) R1 e1 → LaysPart R1 e1 C D → r ≡ get_or R (e - 1) blank → x ≡ point_of r.value → E ≡ stepped (with_line D D.next (Save x) r.place) → F ≡ stepped (with_line E E.next Pop r.place) → LaysPart R e C F
+lays-set {R} {e} h f {r = r} {D = D} {E = E} {F = F} p l g i j k =
     let save : Lines ((Save (point_of r.value), r.place) ∷ []) D E = lines-put _ _ (j ∙ ap (λ (y : ℕ). stepped (with_line D D.next (Save y) r.place)) i) in
     let both : Lines ((Save (point_of r.value), r.place) ∷ (Pop, r.place) ∷ []) D F = lines-then save (lines-put _ _ k) in
     let both' : Lines ((Save (point_of (get_or R (e - 1) blank).value), (get_or R (e - 1) blank).place) ∷ (Pop, (get_or R (e - 1) blank).place) ∷ []) D F = relaid (ap (λ (z : Row). (Save (point_of z.value), z.place) ∷ (Pop, z.place) ∷ []) g) both in
-    lays-part R e C F h (λ v r. relaid (one-code R e C (v, r) shape.Set f refl) (lines-then (one-lines R e C (v, r) shape.Set f refl p l) both'))
+    lays-part h (λ v r. relaid (one-code (record { room = (v, r) }) f refl) (lines-then (one-lines (record { room = (v, r) }) f refl p l) both'))
 
 -- two parts; the second may come some addresses behind the first
 
-module _ (R : List Row) (e : ℕ) (C : Code) (h : HasRoomIn R e C) (s : Shape) (f : shape_at R e ≡ s) (k : part_count s ≡ 2) where
-  two : TwoOf R e h.0
-  two = two-of R e h.0 h.1.stands (ap part_count f ∙ k)
+module _ {R : List Row} {e : ℕ} {C : Code} (h : HasRoomIn R e C) {s : Shape} (f : shape_at R e ≡ s) (k : part_count s ≡ 2) where
+  two : TwoOf R e h.room.0
+  two = two-of R e h.room.0 h.room.1.stands (ap part_count f ∙ k)
 
-  two-total : h.0.measure.length ≡ two.x.measure.length + two.y.measure.length + own_length s
+  two-total : h.room.0.measure.length ≡ two.x.measure.length + two.y.measure.length + own_length s
   two-total = ap (λ (w : Part). w.measure.length) two.is ∙ ap (λ (z : Shape). two.x.measure.length + two.y.measure.length + own_length z) f
 
   left_place : Room R (start_at R (e - 1)) C.next (length C.instructions.now) (length C.places.now) two.x
-  left_place = let t = two-total in room-of {C = C} two.left (space-for {C = C} (space-of {C = C} h.1) (omega arith))
+  left_place = let t = two-total in room-of {C = C} two.left (space-for {C = C} (space-of {C = C} h.room.1) (omega arith))
 
-  pub left-room : {R1 : List Row} {e1 : ℕ} → (R1 ≡ R) × (e1 ≡ start_at R (e - 1)) → HasRoomIn R1 e1 C
-  left-room p = (two.x, room-at p left_place)
-
-  left-lines : {R1 : List Row} {e1 : ℕ} {D : Code} → (R1 ≡ R) × (e1 ≡ start_at R (e - 1)) → LaysPart R1 e1 C D → Lines (two.x.code C.next) C D
-  left-lines p l = lines-of p l left_place
-
-  left-moved : {R1 : List Row} {e1 : ℕ} {D : Code} → (R1 ≡ R) × (e1 ≡ start_at R (e - 1)) → LaysPart R1 e1 C D → Moved two.x.measure.length C D
-  left-moved p l = moved-lines two.left (left-lines p l)
-
-  -- behind the first part
-  left-space : {R1 : List Row} {e1 : ℕ} {D : Code} → (R1 ≡ R) × (e1 ≡ start_at R (e - 1)) → LaysPart R1 e1 C D → Space (two.y.measure.length + own_length s) D
-  left-space p l = let t = two-total in space-after _ (space-of {C = C} h.1) (left-moved p l) (omega arith)
-
-  pub gap-space : {R1 : List Row} {e1 : ℕ} {D : Code} → (R1 ≡ R) × (e1 ≡ start_at R (e - 1)) → LaysPart R1 e1 C D → Space (own_length s) D
-  gap-space p l = space-for (left-space p l) (omega arith)
-
-  right-place : {R1 : List Row} {e1 j : ℕ} {D D' : Code} → (R1 ≡ R) × (e1 ≡ start_at R (e - 1)) → LaysPart R1 e1 C D → Moved j D D' → j ≤ own_length s → Room R (e - 1) D'.next (length D'.instructions.now) (length D'.places.now) two.y
-  right-place {D' = D'} p l m i = room-of {C = D'} two.right (space-after _ (left-space p l) m (omega arith))
-
-  pub right-room : {R1 R2 : List Row} {e1 e2 j : ℕ} {D D' : Code} → (R1 ≡ R) × (e1 ≡ start_at R (e - 1)) → (R2 ≡ R) × (e2 ≡ e - 1) → LaysPart R1 e1 C D → Moved j D D' → j ≤ own_length s → HasRoomIn R2 e2 D'
-  right-room p q l m i = (two.y, room-at q (right-place p l m i))
-
-  right-lines : {R1 R2 : List Row} {e1 e2 j : ℕ} {D D' E : Code} → (R1 ≡ R) × (e1 ≡ start_at R (e - 1)) → (R2 ≡ R) × (e2 ≡ e - 1) → LaysPart R1 e1 C D → Moved j D D' → j ≤ own_length s → LaysPart R2 e2 D' E → Lines (two.y.code D'.next) D' E
-  right-lines p q l m i l' = lines-of q l' (right-place p l m i)
-
-  right-moved : {R1 R2 : List Row} {e1 e2 j : ℕ} {D D' E : Code} → (R1 ≡ R) × (e1 ≡ start_at R (e - 1)) → (R2 ≡ R) × (e2 ≡ e - 1) → LaysPart R1 e1 C D → Moved j D D' → j ≤ own_length s → LaysPart R2 e2 D' E → Moved two.y.measure.length D' E
-  right-moved p q l m i l' = moved-lines two.right (right-lines p q l m i l')
-
-  -- behind both parts
-  pub right-space : {R1 R2 : List Row} {e1 e2 j : ℕ} (n : ℕ) {D D' E : Code} → (R1 ≡ R) × (e1 ≡ start_at R (e - 1)) → (R2 ≡ R) × (e2 ≡ e - 1) → LaysPart R1 e1 C D → Moved j D D' → LaysPart R2 e2 D' E → n + j ≤ own_length s → Space n E
-  right-space n {D' = D'} p q l m l' i =
-      space-after n (space-after (two.y.measure.length + n) (left-space p l) m (omega arith)) (right-moved p q l m (omega arith) l') (omega arith)
-
-  pub gap-kept : {R1 R2 : List Row} {e1 e2 j a : ℕ} {D D' E : Code} → (R1 ≡ R) × (e1 ≡ start_at R (e - 1)) → (R2 ≡ R) × (e2 ≡ e - 1) → LaysPart R1 e1 C D → a ≡ D.next → Moved j D D' → LaysPart R2 e2 D' E → 1 ≤ j → j ≤ own_length s → (a < length E.instructions.now) × (a < length E.places.now)
-  gap-kept p q l at m l' some i = left_free at (gap-space p l) (omega arith) (moved-then m (right-moved p q l m i l'))
-
-  two-code : two_code s (get_or R (e - 1) blank) two.x.measure.length two.y.measure.length two.x.code two.y.code C.next ≡ h.0.code C.next
+  two-code : two_code s (get_or R (e - 1) blank) two.x.measure.length two.y.measure.length two.x.code two.y.code C.next ≡ h.room.0.code C.next
   two-code =
       ap (λ (z : Shape). two_code z (get_or R (e - 1) blank) two.x.measure.length two.y.measure.length two.x.code two.y.code C.next) (sym f)
       ∙ sym (ap (λ (w : Part). w.code C.next) two.is)
 
+  module _ {R1 : List Row} {e1 : ℕ} (p : At R (start_at R (e - 1)) R1 e1) where
+    pub left-room : HasRoomIn R1 e1 C
+    left-room = record { room = (two.x, room-at p left_place) }
+
+    module _ {D : Code} (l : LaysPart R1 e1 C D) where
+      left-lines : Lines (two.x.code C.next) C D
+      left-lines = lines-of p l left_place
+
+      left-moved : Moved two.x.measure.length C D
+      left-moved = moved-lines two.left left-lines
+
+      left-space : Space (two.y.measure.length + own_length s) D
+      left-space = let t = two-total in space-after _ (space-of {C = C} h.room.1) left-moved (omega arith)
+
+      -- behind the first part
+      pub gap-space : Space (own_length s) D
+      gap-space = space-for left-space (omega arith)
+
+      module _ {j : ℕ} {D' : Code} (m : Moved j D D') (i : j ≤ own_length s) {R2 : List Row} {e2 : ℕ} (q : At R (e - 1) R2 e2) where
+        right-place : Room R (e - 1) D'.next (length D'.instructions.now) (length D'.places.now) two.y
+        right-place = room-of {C = D'} two.right (space-after _ left-space m (omega arith))
+
+        pub right-room : HasRoomIn R2 e2 D'
+        right-room = record { room = (two.y, room-at q right-place) }
+
+        module _ {E : Code} (l' : LaysPart R2 e2 D' E) where
+          right-lines : Lines (two.y.code D'.next) D' E
+          right-lines = lines-of q l' right-place
+
+          right-moved : Moved two.y.measure.length D' E
+          right-moved = moved-lines two.right right-lines
+
+          -- behind both parts
+          pub right-space : (n : ℕ) → n + j ≤ own_length s → Space n E
+          right-space n b = space-after n (space-after (two.y.measure.length + n) left-space m (omega arith)) right-moved (omega arith)
+
+          pub gap-kept : {a : ℕ} → a ≡ D.next → 1 ≤ own_length s → (a < length E.instructions.now) × (a < length E.places.now)
+          gap-kept at some = left_free at gap-space some (moved-then m right-moved)
+
 -- the parts one behind the other, and then the row's own line
 
-module _ (R : List Row) (e : ℕ) (C : Code) (h : HasRoomIn R e C) where
-  pair-lines : (f : shape_at R e ≡ shape.Pair) {R1 R2 : List Row} {e1 e2 : ℕ} {D E F : Code} → (R1 ≡ R) × (e1 ≡ start_at R (e - 1)) → (R2 ≡ R) × (e2 ≡ e - 1) → LaysPart R1 e1 C D → LaysPart R2 e2 D E → Lines (own (get_or R (e - 1) blank) ∷ []) E F → Lines (h.0.code C.next) C F
-  pair-lines f p q l l' o =
-      let T = two R e C h shape.Pair f refl in
-      let m = left-moved R e C h shape.Pair f refl p l in
-      relaid (ap (λ (b : ℕ). T.x.code C.next ++ (T.y.code b ++ own (get_or R (e - 1) blank) ∷ [])) m.at ∙ two-code R e C h shape.Pair f refl)
-      (lines-then (left-lines R e C h shape.Pair f refl p l) (lines-then (right-lines R e C h shape.Pair f refl p q l moved-none (omega arith) l') o))
+pub lays-pair : {R : List Row} {e : ℕ} {C : Code} (h : HasRoomIn R e C) (f : shape_at R e ≡ shape.Pair) {R1 R2 : List Row} {e1 e2 : ℕ} {D E F : Code} → At R (start_at R (e - 1)) R1 e1 → At R (e - 1) R2 e2 → LaysPart R1 e1 C D → LaysPart R2 e2 D E → Lines (own (get_or R (e - 1) blank) ∷ []) E F → LaysPart R e C F
+lays-pair {R} {e} {C} h f p q l l' o =
+    lays-part h (λ v r.
+    let g : HasRoomIn R e C = record { room = (v, r) } in
+    let T = two g f refl in
+    relaid (ap (λ (b : ℕ). T.x.code C.next ++ (T.y.code b ++ own (get_or R (e - 1) blank) ∷ [])) (left-moved g f refl p l).at ∙ two-code g f refl)
+    (lines-then (left-lines g f refl p l) (lines-then (right-lines g f refl p l moved-none (omega arith) q l') o)))
 
-  joint-lines : (f : shape_at R e ≡ shape.Joint) {R1 R2 : List Row} {e1 e2 : ℕ} {D E : Code} → (R1 ≡ R) × (e1 ≡ start_at R (e - 1)) → (R2 ≡ R) × (e2 ≡ e - 1) → LaysPart R1 e1 C D → LaysPart R2 e2 D E → Lines (h.0.code C.next) C E
-  joint-lines f p q l l' =
-      let T = two R e C h shape.Joint f refl in
-      let m = left-moved R e C h shape.Joint f refl p l in
-      relaid (ap (λ (b : ℕ). T.x.code C.next ++ T.y.code b) m.at ∙ two-code R e C h shape.Joint f refl)
-      (lines-then (left-lines R e C h shape.Joint f refl p l) (right-lines R e C h shape.Joint f refl p q l moved-none (omega arith) l'))
+pub lays-joint : {R : List Row} {e : ℕ} {C : Code} (h : HasRoomIn R e C) (f : shape_at R e ≡ shape.Joint) {R1 R2 : List Row} {e1 e2 : ℕ} {D E : Code} → At R (start_at R (e - 1)) R1 e1 → At R (e - 1) R2 e2 → LaysPart R1 e1 C D → LaysPart R2 e2 D E → LaysPart R e C E
+lays-joint {R} {e} {C} h f p q l l' =
+    lays-part h (λ v r.
+    let g : HasRoomIn R e C = record { room = (v, r) } in
+    let T = two g f refl in
+    relaid (ap (λ (b : ℕ). T.x.code C.next ++ T.y.code b) (left-moved g f refl p l).at ∙ two-code g f refl)
+    (lines-then (left-lines g f refl p l) (right-lines g f refl p l moved-none (omega arith) q l')))
 
-  if-lines : (f : shape_at R e ≡ shape.If) {R1 R2 : List Row} {e1 e2 j g : ℕ} {D D' E F : Code} → (R1 ≡ R) × (e1 ≡ start_at R (e - 1)) → (R2 ≡ R) × (e2 ≡ e - 1) → g ≡ (get_or R (e - 1) blank).place → LaysPart R1 e1 C D → j ≡ D.next → D' ≡ stepped D → LaysPart R2 e2 D' E → F ≡ with_line E j (JumpF E.next) g → Lines (h.0.code C.next) C F
-  if-lines f {g = g} {D' = D'} {E = E} p q at l i step l' put =
-      let T = two R e C h shape.If f refl in
-      let m = left-moved R e C h shape.If f refl p l in
-      let m' = moved-step step in
-      let m'' = right-moved R e C h shape.If f refl p q l m' (omega arith) l' in
-      let body : D'.next ≡ C.next + T.x.measure.length + 1 = omega (arith, m.at, m'.at) in
-      let to : E.next ≡ C.next + T.x.measure.length + 1 + T.y.measure.length = omega (arith, m''.at) in
-      relaid (
-      ap (λ (b : ℕ). T.x.code C.next ++ (JumpF b, g) ∷ T.y.code D'.next) to
-      ∙ ap (λ (b : ℕ). T.x.code C.next ++ (JumpF (C.next + T.x.measure.length + 1 + T.y.measure.length), g) ∷ T.y.code b) body
-      ∙ ap (λ (b : ℕ). T.x.code C.next ++ (JumpF (C.next + T.x.measure.length + 1 + T.y.measure.length), b) ∷ T.y.code (C.next + T.x.measure.length + 1)) at
-      ∙ two-code R e C h shape.If f refl
-      )
-      (lines-around (JumpF E.next) g (left-lines R e C h shape.If f refl p l) i step (right-lines R e C h shape.If f refl p q l m' (omega arith) l') put)
+-- with a jump between them
 
-  while-lines : (f : shape_at R e ≡ shape.While) {R1 R2 : List Row} {e1 e2 j g : ℕ} {D D' E F G : Code} → (R1 ≡ R) × (e1 ≡ start_at R (e - 1)) → (R2 ≡ R) × (e2 ≡ e - 1) → g ≡ (get_or R (e - 1) blank).place → LaysPart R1 e1 C D → j ≡ D.next → D' ≡ stepped D → LaysPart R2 e2 D' E → F ≡ stepped (with_line E E.next (Jump C.next) g) → G ≡ with_line F j (JumpF F.next) g → Lines (h.0.code C.next) C G
-  while-lines f {g = g} {D' = D'} {E = E} {F = F} p q at l i step l' back put =
-      let T = two R e C h shape.While f refl in
-      let m = left-moved R e C h shape.While f refl p l in
-      let m' = moved-step step in
-      let m'' = right-moved R e C h shape.While f refl p q l m' (omega arith) l' in
-      let body : D'.next ≡ C.next + T.x.measure.length + 1 = omega (arith, m.at, m'.at) in
-      let to : F.next ≡ C.next + T.x.measure.length + 1 + T.y.measure.length + 1 = omega (arith, m''.at, ap (λ (X : Code). X.next) back) in
-      relaid (
-      ap (λ (b : ℕ). T.x.code C.next ++ (JumpF b, g) ∷ (T.y.code D'.next ++ (Jump C.next, g) ∷ [])) to
-      ∙ ap (λ (b : ℕ). T.x.code C.next ++ (JumpF (C.next + T.x.measure.length + 1 + T.y.measure.length + 1), g) ∷ (T.y.code b ++ (Jump C.next, g) ∷ [])) body
-      ∙ ap (λ (b : ℕ). T.x.code C.next ++ (JumpF (C.next + T.x.measure.length + 1 + T.y.measure.length + 1), b) ∷ (T.y.code (C.next + T.x.measure.length + 1) ++ (Jump C.next, b) ∷ [])) at
-      ∙ two-code R e C h shape.While f refl
-      )
-      (lines-around (JumpF F.next) g (left-lines R e C h shape.While f refl p l) i step (lines-then (right-lines R e C h shape.While f refl p q l m' (omega arith) l') (lines-put _ _ back)) put)
+pub lays-if : {R : List Row} {e : ℕ} {C : Code} (h : HasRoomIn R e C) (f : shape_at R e ≡ shape.If) {R1 R2 : List Row} {e1 e2 j g : ℕ} {D D' E F : Code} → At R (start_at R (e - 1)) R1 e1 → At R (e - 1) R2 e2 → g ≡ (get_or R (e - 1) blank).place → LaysPart R1 e1 C D → j ≡ D.next → D' ≡ stepped D → LaysPart R2 e2 D' E → F ≡ with_line E j (JumpF E.next) g → LaysPart R e C F
+lays-if {R} {e} {C} h f {g = g} {D' = D'} {E = E} p q at l i step l' put =
+    lays-part h (λ v r.
+    let w : HasRoomIn R e C = record { room = (v, r) } in
+    let T = two w f refl in
+    let m = left-moved w f refl p l in
+    let m' = moved-step step in
+    let m'' = right-moved w f refl p l m' (omega arith) q l' in
+    let body : D'.next ≡ C.next + T.x.measure.length + 1 = omega (arith, m.at, m'.at) in
+    let to : E.next ≡ C.next + T.x.measure.length + 1 + T.y.measure.length = omega (arith, m''.at) in
+    relaid (rw (to, body, at) (two-code w f refl))
+    (lines-around (JumpF E.next) g (left-lines w f refl p l) i step (right-lines w f refl p l m' (omega arith) q l') put))
 
-pub lays-pair : (R : List Row) (e : ℕ) (C : Code) (h : HasRoomIn R e C) (f : shape_at R e ≡ shape.Pair) {R1 R2 : List Row} {e1 e2 : ℕ} {D E F : Code} → (R1 ≡ R) × (e1 ≡ start_at R (e - 1)) → (R2 ≡ R) × (e2 ≡ e - 1) → LaysPart R1 e1 C D → LaysPart R2 e2 D E → Lines (own (get_or R (e - 1) blank) ∷ []) E F → LaysPart R e C F
-lays-pair R e C h f p q l l' o = lays-part R e C _ h (λ v r. pair-lines R e C (v, r) f p q l l' o)
-
-pub lays-joint : (R : List Row) (e : ℕ) (C : Code) (h : HasRoomIn R e C) (f : shape_at R e ≡ shape.Joint) {R1 R2 : List Row} {e1 e2 : ℕ} {D E : Code} → (R1 ≡ R) × (e1 ≡ start_at R (e - 1)) → (R2 ≡ R) × (e2 ≡ e - 1) → LaysPart R1 e1 C D → LaysPart R2 e2 D E → LaysPart R e C E
-lays-joint R e C h f p q l l' = lays-part R e C _ h (λ v r. joint-lines R e C (v, r) f p q l l')
-
-pub lays-if : (R : List Row) (e : ℕ) (C : Code) (h : HasRoomIn R e C) (f : shape_at R e ≡ shape.If) {R1 R2 : List Row} {e1 e2 j g : ℕ} {D D' E F : Code} → (R1 ≡ R) × (e1 ≡ start_at R (e - 1)) → (R2 ≡ R) × (e2 ≡ e - 1) → g ≡ (get_or R (e - 1) blank).place → LaysPart R1 e1 C D → j ≡ D.next → D' ≡ stepped D → LaysPart R2 e2 D' E → F ≡ with_line E j (JumpF E.next) g → LaysPart R e C F
-lays-if R e C h f p q at l i step l' put = lays-part R e C _ h (λ v r. if-lines R e C (v, r) f p q at l i step l' put)
-
-pub lays-while : (R : List Row) (e : ℕ) (C : Code) (h : HasRoomIn R e C) (f : shape_at R e ≡ shape.While) {R1 R2 : List Row} {e1 e2 j g : ℕ} {D D' E F G : Code} → (R1 ≡ R) × (e1 ≡ start_at R (e - 1)) → (R2 ≡ R) × (e2 ≡ e - 1) → g ≡ (get_or R (e - 1) blank).place → LaysPart R1 e1 C D → j ≡ D.next → D' ≡ stepped D → LaysPart R2 e2 D' E → F ≡ stepped (with_line E E.next (Jump C.next) g) → G ≡ with_line F j (JumpF F.next) g → LaysPart R e C G
-lays-while R e C h f p q at l i step l' back put = lays-part R e C _ h (λ v r. while-lines R e C (v, r) f p q at l i step l' back put)
+pub lays-while : {R : List Row} {e : ℕ} {C : Code} (h : HasRoomIn R e C) (f : shape_at R e ≡ shape.While) {R1 R2 : List Row} {e1 e2 j g : ℕ} {D D' E F G : Code} → At R (start_at R (e - 1)) R1 e1 → At R (e - 1) R2 e2 → g ≡ (get_or R (e - 1) blank).place → LaysPart R1 e1 C D → j ≡ D.next → D' ≡ stepped D → LaysPart R2 e2 D' E → F ≡ stepped (with_line E E.next (Jump C.next) g) → G ≡ with_line F j (JumpF F.next) g → LaysPart R e C G
+lays-while {R} {e} {C} h f {g = g} {D' = D'} {E = E} {F = F} p q at l i step l' back put =
+    lays-part h (λ v r.
+    let w : HasRoomIn R e C = record { room = (v, r) } in
+    let T = two w f refl in
+    let m = left-moved w f refl p l in
+    let m' = moved-step step in
+    let m'' = right-moved w f refl p l m' (omega arith) q l' in
+    let body : D'.next ≡ C.next + T.x.measure.length + 1 = omega (arith, m.at, m'.at) in
+    let to : F.next ≡ C.next + T.x.measure.length + 1 + T.y.measure.length + 1 = omega (arith, m''.at, ap (λ (X : Code). X.next) back) in
+    relaid (rw (to, body, at) (two-code w f refl))
+    (lines-around (JumpF F.next) g (left-lines w f refl p l) i step (lines-then (right-lines w f refl p l m' (omega arith) q l') (lines-put _ _ back)) put))
 
 -- three parts, each of the later ones behind a jump
 
-module _ (R : List Row) (e : ℕ) (C : Code) (h : HasRoomIn R e C) (f : shape_at R e ≡ shape.IfElse) where
-  three : ThreeOf R e h.0
-  three = three-of R e h.0 h.1.stands (ap part_count f)
+module _ {R : List Row} {e : ℕ} {C : Code} (h : HasRoomIn R e C) (f : shape_at R e ≡ shape.IfElse) where
+  three : ThreeOf R e h.room.0
+  three = three-of R e h.room.0 h.room.1.stands (ap part_count f)
 
-  three-total : h.0.measure.length ≡ three.x.measure.length + three.y.measure.length + three.z.measure.length + 2
+  three-total : h.room.0.measure.length ≡ three.x.measure.length + three.y.measure.length + three.z.measure.length + 2
   three-total = ap (λ (w : Part). w.measure.length) three.is
 
   first-place : Room R (start_at R (start_at R (e - 1))) C.next (length C.instructions.now) (length C.places.now) three.x
-  first-place = let t = three-total in room-of {C = C} three.left (space-for {C = C} (space-of {C = C} h.1) (omega arith))
+  first-place = let t = three-total in room-of {C = C} three.left (space-for {C = C} (space-of {C = C} h.room.1) (omega arith))
 
-  pub first-room : {R1 : List Row} {e1 : ℕ} → (R1 ≡ R) × (e1 ≡ start_at R (start_at R (e - 1))) → HasRoomIn R1 e1 C
-  first-room p = (three.x, room-at p first-place)
+  module _ {R1 : List Row} {e1 : ℕ} (p : At R (start_at R (start_at R (e - 1))) R1 e1) where
+    pub first-room : HasRoomIn R1 e1 C
+    first-room = record { room = (three.x, room-at p first-place) }
 
-  first-lines : {R1 : List Row} {e1 : ℕ} {D : Code} → (R1 ≡ R) × (e1 ≡ start_at R (start_at R (e - 1))) → LaysPart R1 e1 C D → Lines (three.x.code C.next) C D
-  first-lines p l = lines-of p l first-place
+    module _ {D : Code} (l : LaysPart R1 e1 C D) where
+      first-lines : Lines (three.x.code C.next) C D
+      first-lines = lines-of p l first-place
 
-  first-space : {R1 : List Row} {e1 : ℕ} {D : Code} → (R1 ≡ R) × (e1 ≡ start_at R (start_at R (e - 1))) → LaysPart R1 e1 C D → Space (three.y.measure.length + three.z.measure.length + 2) D
-  first-space p l = let t = three-total in space-after _ (space-of {C = C} h.1) (moved-lines three.left (first-lines p l)) (omega arith)
+      first-space : Space (three.y.measure.length + three.z.measure.length + 2) D
+      first-space = let t = three-total in space-after _ (space-of {C = C} h.room.1) (moved-lines three.left first-lines) (omega arith)
 
-  pub first-gap : {R1 : List Row} {e1 : ℕ} {D : Code} → (R1 ≡ R) × (e1 ≡ start_at R (start_at R (e - 1))) → LaysPart R1 e1 C D → Space 1 D
-  first-gap p l = space-for (first-space p l) (omega arith)
+      pub first-gap : Space 1 D
+      first-gap = space-for first-space (omega arith)
 
-  second-place : {R1 : List Row} {e1 : ℕ} {D D' : Code} → (R1 ≡ R) × (e1 ≡ start_at R (start_at R (e - 1))) → LaysPart R1 e1 C D → D' ≡ stepped D → Room R (start_at R (e - 1)) D'.next (length D'.instructions.now) (length D'.places.now) three.y
-  second-place {D' = D'} p l step = room-of {C = D'} three.middle (space-after _ (first-space p l) (moved-step step) (omega arith))
+      module _ {D' : Code} (step : D' ≡ stepped D) {R2 : List Row} {e2 : ℕ} (q : At R (start_at R (e - 1)) R2 e2) where
+        second-place : Room R (start_at R (e - 1)) D'.next (length D'.instructions.now) (length D'.places.now) three.y
+        second-place = room-of {C = D'} three.middle (space-after _ first-space (moved-step step) (omega arith))
 
-  pub second_room : {R1 R2 : List Row} {e1 e2 : ℕ} {D D' : Code} → (R1 ≡ R) × (e1 ≡ start_at R (start_at R (e - 1))) → (R2 ≡ R) × (e2 ≡ start_at R (e - 1)) → LaysPart R1 e1 C D → D' ≡ stepped D → HasRoomIn R2 e2 D'
-  second_room p q l step = (three.y, room-at q (second-place p l step))
+        pub second_room : HasRoomIn R2 e2 D'
+        second_room = record { room = (three.y, room-at q second-place) }
 
-  second-lines : {R1 R2 : List Row} {e1 e2 : ℕ} {D D' E : Code} → (R1 ≡ R) × (e1 ≡ start_at R (start_at R (e - 1))) → (R2 ≡ R) × (e2 ≡ start_at R (e - 1)) → LaysPart R1 e1 C D → D' ≡ stepped D → LaysPart R2 e2 D' E → Lines (three.y.code D'.next) D' E
-  second-lines p q l step l' = lines-of q l' (second-place p l step)
+        module _ {E : Code} (l' : LaysPart R2 e2 D' E) where
+          second-lines : Lines (three.y.code D'.next) D' E
+          second-lines = lines-of q l' second-place
 
-  second-space : {R1 R2 : List Row} {e1 e2 : ℕ} {D D' E : Code} → (R1 ≡ R) × (e1 ≡ start_at R (start_at R (e - 1))) → (R2 ≡ R) × (e2 ≡ start_at R (e - 1)) → LaysPart R1 e1 C D → D' ≡ stepped D → LaysPart R2 e2 D' E → Space (three.z.measure.length + 1) E
-  second-space p q l step l' =
-      space-after _ (space-after (three.y.measure.length + three.z.measure.length + 1) (first-space p l) (moved-step step) (omega arith)) (moved-lines three.middle (second-lines p q l step l')) (omega arith)
+          second-space : Space (three.z.measure.length + 1) E
+          second-space =
+              space-after _ (space-after (three.y.measure.length + three.z.measure.length + 1) first-space (moved-step step) (omega arith)) (moved-lines three.middle second-lines) (omega arith)
 
-  pub second-gap : {R1 R2 : List Row} {e1 e2 : ℕ} {D D' E : Code} → (R1 ≡ R) × (e1 ≡ start_at R (start_at R (e - 1))) → (R2 ≡ R) × (e2 ≡ start_at R (e - 1)) → LaysPart R1 e1 C D → D' ≡ stepped D → LaysPart R2 e2 D' E → Space 1 E
-  second-gap p q l step l' = space-for (second-space p q l step l') (omega arith)
+          pub second-gap : Space 1 E
+          second-gap = space-for second-space (omega arith)
 
-  pub first-kept : {R1 R2 : List Row} {e1 e2 i : ℕ} {D D' E : Code} → (R1 ≡ R) × (e1 ≡ start_at R (start_at R (e - 1))) → (R2 ≡ R) × (e2 ≡ start_at R (e - 1)) → LaysPart R1 e1 C D → i ≡ D.next → D' ≡ stepped D → LaysPart R2 e2 D' E → (i < length E.instructions.now) × (i < length E.places.now)
-  first-kept p q l at step l' = left_free at (first-gap p l) (omega arith) (moved-then (moved-step step) (moved-lines three.middle (second-lines p q l step l')))
+          pub first-kept : {i : ℕ} → i ≡ D.next → (i < length E.instructions.now) × (i < length E.places.now)
+          first-kept at = left_free at first-gap (omega arith) (moved-then (moved-step step) (moved-lines three.middle second-lines))
 
-  third-place : {R1 R2 : List Row} {e1 e2 : ℕ} {D D' E E' : Code} → (R1 ≡ R) × (e1 ≡ start_at R (start_at R (e - 1))) → (R2 ≡ R) × (e2 ≡ start_at R (e - 1)) → LaysPart R1 e1 C D → D' ≡ stepped D → LaysPart R2 e2 D' E → Moved 1 E E' → Room R (e - 1) E'.next (length E'.instructions.now) (length E'.places.now) three.z
-  third-place {E' = E'} p q l step l' m = room-of {C = E'} three.right (space-after _ (second-space p q l step l') m (omega arith))
+          module _ {E' : Code} (m : Moved 1 E E') {R3 : List Row} {e3 : ℕ} (o : At R (e - 1) R3 e3) where
+            third-place : Room R (e - 1) E'.next (length E'.instructions.now) (length E'.places.now) three.z
+            third-place = room-of {C = E'} three.right (space-after _ second-space m (omega arith))
 
-  pub third-room : {R1 R2 R3 : List Row} {e1 e2 e3 : ℕ} {D D' E E' : Code} → (R1 ≡ R) × (e1 ≡ start_at R (start_at R (e - 1))) → (R2 ≡ R) × (e2 ≡ start_at R (e - 1)) → (R3 ≡ R) × (e3 ≡ e - 1) → LaysPart R1 e1 C D → D' ≡ stepped D → LaysPart R2 e2 D' E → Moved 1 E E' → HasRoomIn R3 e3 E'
-  third-room p q o l step l' m = (three.z, room-at o (third-place p q l step l' m))
+            pub third-room : HasRoomIn R3 e3 E'
+            third-room = record { room = (three.z, room-at o third-place) }
 
-  third-lines : {R1 R2 R3 : List Row} {e1 e2 e3 : ℕ} {D D' E E' F : Code} → (R1 ≡ R) × (e1 ≡ start_at R (start_at R (e - 1))) → (R2 ≡ R) × (e2 ≡ start_at R (e - 1)) → (R3 ≡ R) × (e3 ≡ e - 1) → LaysPart R1 e1 C D → D' ≡ stepped D → LaysPart R2 e2 D' E → Moved 1 E E' → LaysPart R3 e3 E' F → Lines (three.z.code E'.next) E' F
-  third-lines p q o l step l' m l'' = lines-of o l'' (third-place p q l step l' m)
+            module _ {F : Code} (l'' : LaysPart R3 e3 E' F) where
+              third-lines : Lines (three.z.code E'.next) E' F
+              third-lines = lines-of o l'' third-place
 
-  pub third-space : {R1 R2 R3 : List Row} {e1 e2 e3 : ℕ} {D D' E E' F : Code} → (R1 ≡ R) × (e1 ≡ start_at R (start_at R (e - 1))) → (R2 ≡ R) × (e2 ≡ start_at R (e - 1)) → (R3 ≡ R) × (e3 ≡ e - 1) → LaysPart R1 e1 C D → D' ≡ stepped D → LaysPart R2 e2 D' E → Moved 1 E E' → LaysPart R3 e3 E' F → Space 0 F
-  third-space p q o l step l' m l'' =
-      space-after _ (space-after three.z.measure.length (second-space p q l step l') m (omega arith)) (moved-lines three.right (third-lines p q o l step l' m l'')) (omega arith)
+              pub third-space : Space 0 F
+              third-space = space-after _ (space-after three.z.measure.length second-space m (omega arith)) (moved-lines three.right third-lines) (omega arith)
 
-  pub second-kept : {R1 R2 R3 : List Row} {e1 e2 e3 j : ℕ} {D D' E E' F : Code} → (R1 ≡ R) × (e1 ≡ start_at R (start_at R (e - 1))) → (R2 ≡ R) × (e2 ≡ start_at R (e - 1)) → (R3 ≡ R) × (e3 ≡ e - 1) → LaysPart R1 e1 C D → D' ≡ stepped D → LaysPart R2 e2 D' E → j ≡ E.next → Moved 1 E E' → LaysPart R3 e3 E' F → (j < length F.instructions.now) × (j < length F.places.now)
-  second-kept p q o l step l' at m l'' = left_free at (second-gap p q l step l') (omega arith) (moved-then m (moved-lines three.right (third-lines p q o l step l' m l'')))
+              pub second-kept : {j : ℕ} → j ≡ E.next → (j < length F.instructions.now) × (j < length F.places.now)
+              second-kept at = left_free at second-gap (omega arith) (moved-then m (moved-lines three.right third-lines))
 
-  choose-lines : {R1 R2 R3 : List Row} {e1 e2 e3 i j g : ℕ} {D D' E E' K F G : Code} → (R1 ≡ R) × (e1 ≡ start_at R (start_at R (e - 1))) → (R2 ≡ R) × (e2 ≡ start_at R (e - 1)) → (R3 ≡ R) × (e3 ≡ e - 1) → g ≡ (get_or R (e - 1) blank).place → LaysPart R1 e1 C D → i ≡ D.next → D' ≡ stepped D → LaysPart R2 e2 D' E → j ≡ E.next → E' ≡ stepped E → K ≡ with_line E' i (JumpF E'.next) g → LaysPart R3 e3 K F → G ≡ with_line F j (Jump F.next) g → Lines (h.0.code C.next) C G
-  choose-lines {i = i} {j = j} {g = g} {D' = D'} {E = E} {E' = E'} {K = K} {F = F} p q o at l i-is step l' j-is step' over l'' put =
-      let T = three in
-      let d = moved-lines T.left (first-lines p l) in
-      let d' = moved-step step in
-      let x = second-lines p q l step l' in
-      let b = moved-lines T.middle x in
-      let b' = moved-step step' in
-      let k : K ≡ stepped (with_line E i (JumpF E'.next) g) = over ∙ ap (λ (X : Code). with_line X i (JumpF E'.next) g) step' in
-      let m : Moved 1 E K = record { at = ap (λ (X : Code). X.next) k; instructions = ap (λ (X : Code). length X.instructions.now) k ∙ length-set E.instructions.now i _; places = ap (λ (X : Code). length X.places.now) k ∙ length-set E.places.now i g } in
-      let z = third-lines p q o l step l' m l'' in
-      let t = moved-lines T.right z in
-      let a1 : D'.next ≡ C.next + T.x.measure.length + 1 = omega (arith, d.at, d'.at) in
-      let a2 : E'.next ≡ C.next + T.x.measure.length + 1 + T.y.measure.length + 1 = omega (arith, b.at, b'.at) in
-      let a2' : K.next ≡ C.next + T.x.measure.length + 1 + T.y.measure.length + 1 = omega (arith, b.at, m.at) in
-      let a3 : F.next ≡ C.next + T.x.measure.length + 1 + T.y.measure.length + 1 + T.z.measure.length = omega (arith, t.at) in
-      relaid (
-      append_assoc (T.x.code C.next) ((JumpF E'.next, g) ∷ T.y.code D'.next) ((Jump F.next, g) ∷ T.z.code K.next)
-      ∙ ap (λ (n : ℕ). T.x.code C.next ++ (JumpF n, g) ∷ (T.y.code D'.next ++ (Jump F.next, g) ∷ T.z.code K.next)) a2
-      ∙ ap (λ (n : ℕ). T.x.code C.next ++ (JumpF (C.next + T.x.measure.length + 1 + T.y.measure.length + 1), g) ∷ (T.y.code n ++ (Jump F.next, g) ∷ T.z.code K.next)) a1
-      ∙ ap (λ (n : ℕ). T.x.code C.next ++ (JumpF (C.next + T.x.measure.length + 1 + T.y.measure.length + 1), g) ∷ (T.y.code (C.next + T.x.measure.length + 1) ++ (Jump n, g) ∷ T.z.code K.next)) a3
-      ∙ ap (λ (n : ℕ). T.x.code C.next ++ (JumpF (C.next + T.x.measure.length + 1 + T.y.measure.length + 1), g) ∷ (T.y.code (C.next + T.x.measure.length + 1) ++ (Jump (C.next + T.x.measure.length + 1 + T.y.measure.length + 1 + T.z.measure.length), g) ∷ T.z.code n)) a2'
-      ∙ ap (λ (n : ℕ). T.x.code C.next ++ (JumpF (C.next + T.x.measure.length + 1 + T.y.measure.length + 1), n) ∷ (T.y.code (C.next + T.x.measure.length + 1) ++ (Jump (C.next + T.x.measure.length + 1 + T.y.measure.length + 1 + T.z.measure.length), n) ∷ T.z.code (C.next + T.x.measure.length + 1 + T.y.measure.length + 1))) at
-      ∙ sym (ap (λ (w : Part). w.code C.next) T.is)
-      )
-      (lines-around (Jump F.next) g (lines-around (JumpF E'.next) g (first-lines p l) i-is step x refl) j-is k z put)
-
-pub lays-choose : (R : List Row) (e : ℕ) (C : Code) (h : HasRoomIn R e C) (f : shape_at R e ≡ shape.IfElse) {R1 R2 R3 : List Row} {e1 e2 e3 i j g : ℕ} {D D' E E' K F G : Code} → (R1 ≡ R) × (e1 ≡ start_at R (start_at R (e - 1))) → (R2 ≡ R) × (e2 ≡ start_at R (e - 1)) → (R3 ≡ R) × (e3 ≡ e - 1) → g ≡ (get_or R (e - 1) blank).place → LaysPart R1 e1 C D → i ≡ D.next → D' ≡ stepped D → LaysPart R2 e2 D' E → j ≡ E.next → E' ≡ stepped E → K ≡ with_line E' i (JumpF E'.next) g → LaysPart R3 e3 K F → G ≡ with_line F j (Jump F.next) g → LaysPart R e C G
-lays-choose R e C h f p q o at l i step l' j step' over l'' put =
-    lays-part R e C _ h (λ v r. choose-lines R e C (v, r) f p q o at l i step l' j step' over l'' put)
+pub lays-choose : {R : List Row} {e : ℕ} {C : Code} (h : HasRoomIn R e C) (f : shape_at R e ≡ shape.IfElse) {R1 R2 R3 : List Row} {e1 e2 e3 i j g : ℕ} {D D' E E' K F G : Code} → At R (start_at R (start_at R (e - 1))) R1 e1 → At R (start_at R (e - 1)) R2 e2 → At R (e - 1) R3 e3 → g ≡ (get_or R (e - 1) blank).place → LaysPart R1 e1 C D → i ≡ D.next → D' ≡ stepped D → LaysPart R2 e2 D' E → j ≡ E.next → E' ≡ stepped E → K ≡ with_line E' i (JumpF E'.next) g → LaysPart R3 e3 K F → G ≡ with_line F j (Jump F.next) g → LaysPart R e C G
+lays-choose {R} {e} {C} h f {i = i} {j = j} {g = g} {D' = D'} {E = E} {E' = E'} {K = K} {F = F} p q o at l i-is step l' j-is step' over l'' put =
+    lays-part h (λ v r.
+    let w : HasRoomIn R e C = record { room = (v, r) } in
+    let T = three w f in
+    let x = first-lines w f p l in
+    let y = second-lines w f p l step q l' in
+    let k : K ≡ stepped (with_line E i (JumpF E'.next) g) = over ∙ ap (λ (X : Code). with_line X i (JumpF E'.next) g) step' in
+    let m = moved-then (moved-step step') (moved-line i g (JumpF E'.next) over) in
+    let z = third-lines w f p l step q l' m o l'' in
+    let d = moved-lines T.left x in
+    let d' = moved-step step in
+    let b = moved-lines T.middle y in
+    let b' = moved-step step' in
+    let t = moved-lines T.right z in
+    let first : D'.next ≡ C.next + T.x.measure.length + 1 = omega (arith, d.at, d'.at) in
+    let second : E'.next ≡ C.next + T.x.measure.length + 1 + T.y.measure.length + 1 = omega (arith, b.at, b'.at) in
+    let third : K.next ≡ C.next + T.x.measure.length + 1 + T.y.measure.length + 1 = omega (arith, b.at, m.at) in
+    let end : F.next ≡ C.next + T.x.measure.length + 1 + T.y.measure.length + 1 + T.z.measure.length = omega (arith, t.at) in
+    relaid
+    (append_assoc (T.x.code C.next) ((JumpF E'.next, g) ∷ T.y.code D'.next) ((Jump F.next, g) ∷ T.z.code K.next)
+    ∙ rw (second, first, end, third, at) (sym (ap (λ (w : Part). w.code C.next) T.is)))
+    (lines-around (Jump F.next) g (lines-around (JumpF E'.next) g x i-is step y refl) j-is k z put))
 
 -- the shape that the code looks at is what stands there
-pub shaped : (R : List Row) (e : ℕ) {r : Row} {s z : Shape} → r ≡ get_or R (e - 1) blank → s ≡ shape_of r.kind → s ≡ z → shape_at R e ≡ z
-shaped R e f g h = ap (λ (x : Row). shape_of x.kind) (sym f) ∙ sym g ∙ h
+pub shaped : {R : List Row} {e : ℕ} {C : Code} → HasRoomIn R e C → {r : Row} {s z : Shape} → r ≡ get_or R (e - 1) blank → s ≡ shape_of r.kind → s ≡ z → shape_at R e ≡ z
+shaped _ f g h = ap (λ (x : Row). shape_of x.kind) (sym f) ∙ sym g ∙ h

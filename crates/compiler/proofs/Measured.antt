@@ -1,12 +1,10 @@
 -- The measure of a tree is its code's length, its depth, and the first of its rows that is too deep.
-use Rattle.std.proofs.Common.{◌≡◌, ℕ, ◌+◌, max, List, [], ◌∷◌, ◌++◌, Some, None, Option, sym, refl, ap, ◌∙◌}
+use Rattle.std.proofs.Common.{◌≡◌, ℕ, List, [], ◌∷◌, ◌++◌, None, Option, sym, refl, ap, ◌∙◌, arith}
 use Rattle.tables.specs.Trees.{Sum, Condition, Command, Sheet}
 use Rattle.folds.specs.CodeLengths.{sum_length, condition_length, command_length, sheet_length}
 use Rattle.folds.specs.StackDepths.{sum_depth, condition_depth, command_depth, sheet_depth}
-use Rattle.compiler.specs.declared.shape.Shape.{Shape}
 use Rattle.compiler.specs.declared.measure.Measure.{Measure}
 use Rattle.compiler.specs.Depths.{Depth, first_of, too_deep, first_deep, sum_depths, condition_depths, command_depths, sheet_depths}
-use Rattle.compiler.specs.Measures.{own_length, two_depth, judged, one_measure, two_measure, three_measure}
 
 abbrev pub measure_of : ℕ → ℕ → List Depth → Measure
 measure_of n d xs = record { length = n; depth = d; deep = first_deep xs }
@@ -24,12 +22,10 @@ abbrev pub sheet_measure : Sheet → Measure
 sheet_measure t = measure_of (sheet_length t) (sheet_depth t) (sheet_depths t)
 
 first-assoc : {X : Type 0} (a b c : Option X) → first_of a (first_of b c) ≡ first_of (first_of a b) c
-first-assoc None b c = refl
-first-assoc (Some x) b c = refl
+first-assoc a b c = grind arith
 
 first-none : {X : Type 0} (a : Option X) → first_of a None ≡ a
-first-none None = refl
-first-none (Some x) = refl
+first-none a = grind arith
 
 pub deep-append : (xs ys : List Depth) → first_deep (xs ++ ys) ≡ first_of (first_deep xs) (first_deep ys)
 deep-append [] ys = refl
@@ -37,36 +33,22 @@ deep-append (x ∷ xs) ys =
     ap (λ (o : Option ℕ). first_of (too_deep x.0 x.1) o) (deep-append xs ys)
     ∙ first-assoc (too_deep x.0 x.1) (first_deep xs) (first_deep ys)
 
-deep-last : (xs : List Depth) (d q : ℕ) → first_of (first_deep xs) (too_deep d q) ≡ first_deep (xs ++ (d, q) ∷ [])
+pub deep-last : (xs : List Depth) (d q : ℕ) → first_of (first_deep xs) (too_deep d q) ≡ first_deep (xs ++ (d, q) ∷ [])
 deep-last xs d q =
     ap (λ (o : Option ℕ). first_of (first_deep xs) o) (sym (first-none (too_deep d q))) ∙ sym (deep-append xs ((d, q) ∷ []))
 
-deep-two : (xs ys : List Depth) (d q : ℕ) → first_of (first_of (first_deep xs) (first_deep ys)) (too_deep d q) ≡ first_deep (xs ++ (ys ++ (d, q) ∷ []))
+pub deep-two : (xs ys : List Depth) (d q : ℕ) → first_of (first_of (first_deep xs) (first_deep ys)) (too_deep d q) ≡ first_deep (xs ++ (ys ++ (d, q) ∷ []))
 deep-two xs ys d q =
     sym (first-assoc (first_deep xs) (first_deep ys) (too_deep d q))
     ∙ ap (λ (o : Option ℕ). first_of (first_deep xs) o) (deep-last ys d q)
     ∙ sym (deep-append xs (ys ++ (d, q) ∷ []))
 
-deep-three : (xs ys zs : List Depth) (d q : ℕ) → first_of (first_of (first_deep xs) (first_of (first_deep ys) (first_deep zs))) (too_deep d q) ≡ first_deep (xs ++ (ys ++ (zs ++ (d, q) ∷ [])))
+pub deep-three : (xs ys zs : List Depth) (d q : ℕ) → first_of (first_of (first_deep xs) (first_of (first_deep ys) (first_deep zs))) (too_deep d q) ≡ first_deep (xs ++ (ys ++ (zs ++ (d, q) ∷ [])))
 deep-three xs ys zs d q =
     sym (first-assoc (first_deep xs) (first_of (first_deep ys) (first_deep zs)) (too_deep d q))
     ∙ ap (λ (o : Option ℕ). first_of (first_deep xs) o) (deep-two ys zs d q)
     ∙ sym (deep-append xs (ys ++ (zs ++ (d, q) ∷ [])))
 
--- by how many parts there are
-
-pub one-measure : (s : Shape) (q n d n' : ℕ) (xs : List Depth) → n + own_length s ≡ n' → one_measure s q (measure_of n d xs) ≡ measure_of n' d (xs ++ (d, q) ∷ [])
-one-measure s q n d n' xs e =
-    ap (λ (k : ℕ). judged q k d (first_deep xs)) e
-    ∙ ap (λ (o : Option ℕ). record { length = n'; depth = d; deep = o }) (deep-last xs d q)
-
-pub two-measure : (s : Shape) (q m d n e k f : ℕ) (xs ys : List Depth) → m + n + own_length s ≡ k → two_depth s d e ≡ f → two_measure s q (measure_of m d xs) (measure_of n e ys) ≡ measure_of k f (xs ++ (ys ++ (f, q) ∷ []))
-two-measure s q m d n e k f xs ys g h =
-    ap (λ (j : ℕ). judged q j (two_depth s d e) (first_of (first_deep xs) (first_deep ys))) g
-    ∙ ap (λ (j : ℕ). judged q k j (first_of (first_deep xs) (first_deep ys))) h
-    ∙ ap (λ (o : Option ℕ). record { length = k; depth = f; deep = o }) (deep-two xs ys f q)
-
-pub three-measure : (q m d n e k f j : ℕ) (xs ys zs : List Depth) → m + n + k + 2 ≡ j → three_measure q (measure_of m d xs) (measure_of n e ys) (measure_of k f zs) ≡ measure_of j (max d (max e f)) (xs ++ (ys ++ (zs ++ (max d (max e f), q) ∷ [])))
-three-measure q m d n e k f j xs ys zs g =
-    ap (λ (i : ℕ). judged q i (max d (max e f)) (first_of (first_deep xs) (first_of (first_deep ys) (first_deep zs)))) g
-    ∙ ap (λ (o : Option ℕ). record { length = j; depth = max d (max e f); deep = o }) (deep-three xs ys zs (max d (max e f)) q)
+pub measured : {m n d : ℕ} {o o' : Option ℕ} → m ≡ n → o ≡ o' → ◌≡◌ {A = Measure} (record { length = m; depth = d; deep = o }) (record { length = n; depth = d; deep = o' })
+measured {n = n} {d = d} {o = o} e f =
+    ap (λ (k : ℕ). record { length = k; depth = d; deep = o }) e ∙ ap (λ (p : Option ℕ). record { length = n; depth = d; deep = p }) f

@@ -103,24 +103,10 @@ three-of R e v (three-stands {x = x} {y = y} {z = z} o f g h) k =
 -- no row adds more than two instructions
 
 own-short : (s : Shape) → own_length s ≤ 2
-own-short shape.Leaf = omega arith
-own-short shape.Not = omega arith
-own-short shape.Pair = omega arith
-own-short shape.Set = omega arith
-own-short shape.If = omega arith
-own-short shape.IfElse = omega arith
-own-short shape.While = omega arith
-own-short shape.Joint = omega arith
+own-short s = grind arith
 
 two-shallow : (s : Shape) (l r m n : ℕ) → l ≤ m → r ≤ n → two_depth s l r ≤ suc (m + n)
-two-shallow shape.Leaf l r m n f g = omega arith
-two-shallow shape.Not l r m n f g = omega arith
-two-shallow shape.Pair l r m n f g = omega arith
-two-shallow shape.Set l r m n f g = omega arith
-two-shallow shape.If l r m n f g = omega arith
-two-shallow shape.IfElse l r m n f g = omega arith
-two-shallow shape.While l r m n f g = omega arith
-two-shallow shape.Joint l r m n f g = omega arith
+two-shallow s l r m n f g = grind arith
 
 pub short : (R : List Row) (e : ℕ) (v : Part) → Stands R e v → v.measure.length ≤ 2 * v.rows
 short R e v (zero-stands o) = omega arith

@@ -19,8 +19,8 @@ abbrev pub stepped : Code → Code
 stepped c = record c { next = c.next + 1 }
 
 -- the part that ends at `end` has room from the next address on
-abbrev pub HasRoomIn : List Row → ℕ → Code → Type 0
-HasRoomIn R end c = HasRoom R end c.next (length c.instructions.now) (length c.places.now)
+pub record HasRoomIn (R : List Row) (end : ℕ) (c : Code) : Type 0 where
+  pub room : HasRoom R end c.next (length c.instructions.now) (length c.places.now)
 
 -- the part that ends at `end` has been laid in the same lists
 pub record LaysPart (R : List Row) (end : ℕ) (old new : Code) : Type 0 where

@@ -6,6 +6,7 @@ use crate::measure::Measure;
 use crate::node::Node;
 use crate::shape::Shape;
 
+#[tactic(auto, using(crate::proofs::Parting::some_row))]
 pub(crate) fn measure(node: Node<'_>) -> Measure
     ensures { (v : Part) → Stands node.entry.rows.now node.entry.end v → result ≡ v.measure }
 {

@@ -16,11 +16,12 @@ returns-in_err-sheet-clause-takes c =
 
 pub lay-requires : goal.lay-requires
 lay-requires c =
+    let p = c.args.points in
+    let R = c.args.rows.now in
+    let I = c.args.instructions.now in
+    let P = c.args.places.now in
     let free = sym c.in_ok-sheet.ensures.refused in
-    let slots = c.min-slots in (
-      (whole c.args.points c.args.rows.now c.args.instructions.now c.args.places.now slots.result slots.ensures free).part,
-      room-at c.in_ok-sheet.ensures.whole (whole_room c.args.points c.args.rows.now c.args.instructions.now c.args.places.now slots.result slots.ensures free),
-    )
+    record { room = ((whole p R I P c.min-slots.result c.min-slots.ensures free).part, room-at c.in_ok-sheet.ensures.whole (whole_room p R I P c.min-slots.result c.min-slots.ensures free)) }
 
 pub returns-clause-value : goal.returns-clause-value
 returns-clause-value c =

@@ -2,7 +2,7 @@
 use Rattle.std.proofs.Common.{◌≡◌, arith, rules}
 use Rattle.compiler.specs.Measures.{part_count}
 use Rattle.compiler.specs.Parts.{shape_at}
-use Rattle.compiler.proofs.Parting.{some_row, last-part, small, two-of, three-of, measured-two, measured-three, standing-at}
+use Rattle.compiler.proofs.Parting.{last-part, small, two-of, three-of, measured-two, measured-three, standing-at}
 use Rattle.compiler.proofs.measuring.+measure.Goals as goal
 
 -- one part
@@ -12,19 +12,10 @@ last-requires t c =
     let k : part_count (shape_at c.args.node.rows.now c.args.node.end) ≡ 1 = search rules in
     last-part c.args.node.rows.now c.args.node.end c.args.node.stands (omega arith)
 
-pub measure-requires : goal.measure-requires
-measure-requires t c = let l = some_row c.args.node.rows.now c.args.node.end c.args.node.stands in search rules
-
 pub of_one-requires : goal.of_one-requires
 of_one-requires t c = (small _ _ _ c.last.result.stands c.last.result.few c.measure.ensures).length
 
 -- two parts
-
-pub measure-requires-in-Pair : goal.measure-requires-in-Pair
-measure-requires-in-Pair t c = let l = some_row c.args.node.rows.now c.args.node.end c.args.node.stands in search rules
-
-pub measure-requires-in-Pair-2 : goal.measure-requires-in-Pair-2
-measure-requires-in-Pair-2 t c = let l = some_row c.args.node.rows.now c.args.node.end c.args.node.stands in search rules
 
 pub of_two-requires : goal.of_two-requires
 of_two-requires t c =
@@ -33,15 +24,6 @@ of_two-requires t c =
     record { lengths = (x.length, y.length); depth = y.depth }
 
 -- three parts
-
-pub measure-requires-in-IfElse : goal.measure-requires-in-IfElse
-measure-requires-in-IfElse t c = let l = some_row c.args.node.rows.now c.args.node.end c.args.node.stands in search rules
-
-pub measure-requires-in-IfElse-2 : goal.measure-requires-in-IfElse-2
-measure-requires-in-IfElse-2 t c = let l = some_row c.args.node.rows.now c.args.node.end c.args.node.stands in search rules
-
-pub measure-requires-in-IfElse-3 : goal.measure-requires-in-IfElse-3
-measure-requires-in-IfElse-3 t c = let l = some_row c.args.node.rows.now c.args.node.end c.args.node.stands in search rules
 
 pub of_three-requires : goal.of_three-requires
 of_three-requires t c =
