@@ -29,19 +29,6 @@ impl Comparison {
             Comparison::NotEqual => left != right,
         }
     }
-
-    pub fn number(self) -> u8
-        ensures value { result ≡ comparison_number self }
-        ensures back { comparison_at result ≡ Some self }
-    {
-        u8::from(self)
-    }
-
-    pub fn from_number(number: u32) -> Option<Comparison>
-        ensures { result ≡ comparison_at number }
-    {
-        Comparison::try_from(number).ok()
-    }
 }
 
 // The number by which rows and instructions name it.
