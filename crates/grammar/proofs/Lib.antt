@@ -3,7 +3,6 @@ pub mod Complete
 mod Examples
 pub mod Free
 pub mod Lexing
-pub mod Numerals
 pub mod Sound
 pub mod Stands
 pub mod Whole

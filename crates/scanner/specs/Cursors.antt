@@ -1,4 +1,4 @@
--- A cursor, by what it holds: a text and a position in it. Each step is the position's, and leaves the text.
+-- A cursor, by what it holds: a text and a position in it. Each step is one of the position, and leaves the text.
 use Rattle.std.specs.Prelude.{ℕ, Bool, List}
 use Rattle.scanner.specs.Tokens.{tokens_at, token_at, Placed}
 use Rattle.scanner.specs.Steps.{next_of}

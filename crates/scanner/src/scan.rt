@@ -1,6 +1,6 @@
 // Which token stands at a place of a text, or after it.
 ghost use Rattle.std.specs.Prelude.{◌≡◌, ◌<◌, length, drop};
-ghost use Rattle.scanner.specs.Tokens.{token_at, Placed, standing, sign_standing, pair_front, pair_sign, single_sign};
+ghost use Rattle.scanner.specs.Tokens.{token_at, Placed, standing, sign_standing, pair_sign, single_sign};
 ghost use Rattle.scanner.specs.Spelling.{Found};
 
 use crate::run::{is_blank, run_end};
@@ -54,26 +54,22 @@ fn sign_from(text: &[u8], start: usize) -> Token
     requires { start < length text.now }
     ensures { result ≡ sign_standing start (drop start text.now) }
 {
-    match pair_from(text, start) {
+    let first = text[start];
+    match text
+        .get(start + 1)
+        .and_then(|second| pair_sign(first, *second))
+    {
         Some(symbol) => Token {
             kind: Kind::Sign(symbol),
             start,
             end: start + 2,
         },
         None => Token {
-            kind: single_sign(text[start]),
+            kind: single_sign(first),
             start,
             end: start + 1,
         },
     }
-}
-
-fn pair_from(text: &[u8], start: usize) -> Option<Symbol>
-    requires { start < length text.now }
-    ensures { result ≡ pair_front (drop start text.now) }
-{
-    let second = text.get(start + 1)?;
-    pair_sign(text[start], *second)
 }
 
 fn pair_sign(b: u8, c: u8) -> Option<Symbol>

@@ -100,11 +100,16 @@ fn tokens_and_their_places(rt: HostRuntime) {
 #[test]
 fn the_bytes_of_a_token(rt: HostRuntime) {
     let text = b"back = 12;";
-    assert!(rt; token_at(text, 0).bytes(text) == b"back".as_slice());
-    assert!(rt; token_at(text, 6).bytes(text) == b"12".as_slice());
-    assert!(rt; token_at(text, 10).bytes(text) == b"".as_slice());
-    assert!(rt; token(Kind::Word, 8, 99).bytes(text) == b"2;".as_slice());
-    assert!(rt; token(Kind::Word, 99, 100).bytes(text) == b"".as_slice());
+    let cases = [
+        (token_at(text, 0), "back"),
+        (token_at(text, 6), "12"),
+        (token_at(text, 10), ""),
+        (token(Kind::Word, 8, 99), "2;"),
+        (token(Kind::Word, 99, 100), ""),
+    ];
+    for (told, bytes) in cases {
+        assert_eq!(rt; told.bytes(text), bytes.as_bytes());
+    }
 }
 
 #[test]

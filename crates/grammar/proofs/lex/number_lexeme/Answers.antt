@@ -1,16 +1,14 @@
-use Rattle.std.proofs.Common.{◌∙◌}
-use Rattle.grammar.proofs.Numerals.{digit-more, digit-too-many, digits-all}
+use Rattle.std.proofs.Common.{ℕ, ◌+◌, ◌-◌, ◌*◌, ◌≤◌, List, [], ◌∷◌, drop, arith}
+use Rattle.std.proofs.lemmas.Grind.{common_steps}
+use Rattle.grammar.specs.Lexemes.{numeral_from}
 use Rattle.grammar.proofs.lex.number_lexeme.Goals as goal
+
+-- a number only grows with its digits
+grows : (n : ℕ) (bs : List ℕ) → n ≤ numeral_from n bs
+grows n [] = omega arith
+grows n (b ∷ bs) = let h = grows (n * 10 + (b - 48)) bs in omega arith
 
 pub returns-then-value-gt-LARGEST_NUMBER : goal.returns-then-value-gt-LARGEST_NUMBER
 returns-then-value-gt-LARGEST_NUMBER c =
-    digit-too-many c.args.digits.now c.loop-b.b-index c.loop-b.value c.from.result c.loop-b-test.true (c.from.ensures ∙ c.saturating_sub.ensures) c.loop-b.invariant.1 c.if-value-gt-LARGEST_NUMBER.true
-
-pub loop-b-preserved : goal.loop-b-preserved
-loop-b-preserved c = (
-  c.if-value-gt-LARGEST_NUMBER.false,
-  digit-more c.args.digits.now c.loop-b.b-index c.loop-b.value c.from.result c.loop-b-test.true (c.from.ensures ∙ c.saturating_sub.ensures) c.loop-b.invariant.1,
-)
-
-pub returns : goal.returns
-returns c = digits-all c.args.digits.now c.loop-b.b-index c.loop-b.value c.loop-b-test.false c.loop-b.invariant.0 c.loop-b.invariant.1
+    let g = grows (c.loop-b.value * 10 + c.from.result) (drop (c.loop-b.b-index + 1) c.args.digits.now) in
+    grind (arith, common_steps)
