@@ -42,7 +42,7 @@ returns-in-Pair t c v s =
     let O = two-of R e v s k in
     let x = c.measure-in-Pair.ensures O.x (standing-at c.two.ensures.left O.left) in
     let y = c.measure-in-Pair-2.ensures O.y (standing-at c.two.ensures.right O.right) in
-    measured-two R e v c.row-row.result c.of-shape.result c.of_two.result c.measure-in-Pair.result c.measure-in-Pair-2.result O c.row-row.ensures c.of-shape.ensures x y c.of_two.ensures
+    measured-two R e v c.row-row.result c.from-shape.result c.of_two.result c.measure-in-Pair.result c.measure-in-Pair-2.result O c.row-row.ensures c.from-shape.ensures x y c.of_two.ensures
 
 pub returns-in-IfElse : goal.returns-in-IfElse
 returns-in-IfElse t c v s =
