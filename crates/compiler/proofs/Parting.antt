@@ -6,10 +6,11 @@ use Rattle.std.proofs.lemmas.List.{length-append}
 use Rattle.tables.specs.declared.row.Row.{Row}
 use Rattle.tables.specs.Rows.{blank}
 use Rattle.compiler.specs.declared.shape.Shape.{Shape}
-use Rattle.compiler.specs.declared.shape.Shape.TheVariants as shape
+use Rattle.compiler.specs.declared.node.Node.{Node}
+use Rattle.compiler.specs.Nodes.{StandsBefore}
 use Rattle.compiler.specs.Code.{Line}
 use Rattle.compiler.specs.declared.measure.Measure.{Measure}
-use Rattle.compiler.specs.Measures.{shape_of, part_count, own_length, two_depth, one_measure, two_measure, three_measure}
+use Rattle.compiler.specs.Measures.{shape_of, part_count, own_length, two_depth}
 use Rattle.compiler.specs.Parts.{Part, zero_part, one_code, one_part, two_code, two_part, three_code, three_part, Own, Stands, zero-stands, one-stands, two-stands, three-stands, IsPart, start_at, shape_at}
 
 -- what the last row of a part says
@@ -173,9 +174,9 @@ pub first-part : (R : List Row) (e : ℕ) → IsPart R e → part_count (shape_a
 first-part R e h k = ∥∥₁_map h (λ h. let O = three-of R e h.0 h.1 k in (O.x, O.left))
 
 -- where a node says that it stands
-pub standing-at : {R R' : List Row} {e e' : ℕ} {v : Part} → (R' ≡ R) × (e' ≡ e) → Stands R e v → Stands R' e' v
-standing-at {R} {R'} {e} {e'} {v} h s =
-    subst (λ (xs : List Row). Stands xs e' v) (sym h.0) (subst (λ (n : ℕ). Stands R n v) (sym h.1) s)
+pub standing-at : {R : List Row} {e : ℕ} {n : Node} {v : Part} → StandsBefore R e n → Stands R e v → Stands n.rows.now n.end v
+standing-at {R} {e} {n} {v} h s =
+    subst (λ (xs : List Row). Stands xs n.end v) (sym h.rows) (subst (λ (k : ℕ). Stands R k v) (sym h.end) s)
 
 -- what was measured of a node in at most 2,048 rows is small
 pub record Small (m : Measure) : Type 0 where

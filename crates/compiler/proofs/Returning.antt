@@ -1,10 +1,9 @@
 -- Every sheet comes back from its code.
-use Rattle.std.proofs.Common.{◌≡◌, ℕ, ◌+◌, ◌<◌, ◌≤◌, Bool, true, false, cond, List, [], ◌∷◌, ◌++◌, Some, None, Option, sym, refl, ap, ◌∙◌, arith}
+use Rattle.std.proofs.Common.{◌≡◌, ℕ, ◌+◌, ◌<◌, ◌≤◌, Bool, cond, List, [], ◌∷◌, ◌++◌, Some, None, Option, sym, refl, ap, ◌∙◌, arith}
 use Rattle.std.proofs.lemmas.Bool.{eq-eqb, ne_eqb, lt-ltb, le-ltb}
 use Rattle.arith.specs.declared.operator.Operator.{Operator}
-use Rattle.arith.specs.declared.operator.Operator.TheVariants as operator
 use Rattle.instructions.specs.declared.instruction.Instruction.TheVariants.{Save, Pop, Cmp, Inv, JumpF, Jump}
-use Rattle.tables.specs.Trees.{Sum, number, name, work, Connective, both, either, Condition, truth, compare, negate, connect, Command, set, when, choose, while, Sheet, only, joint}
+use Rattle.tables.specs.Trees.{Sum, number, name, work, Connective, Condition, truth, compare, negate, connect, Command, set, when, choose, while, Sheet, only, joint}
 use Rattle.tables.specs.Rows.{bit}
 use Rattle.folds.specs.CodeLengths.{sum_length, condition_length, command_length, sheet_length}
 use Rattle.compiler.specs.Code.{Line, operator_instruction, connective_instruction, sum_code, condition_code, command_code, sheet_code, instructions_of}

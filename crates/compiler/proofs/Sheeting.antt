@@ -1,8 +1,7 @@
 -- The sheet put together from a table's rows is the sheet that has them.
-use Rattle.std.proofs.Common.{◌≡◌, Bool, true, false, List, [], pos, sym, refl, ap, ◌∙◌, append-nil, arith}
+use Rattle.std.proofs.Common.{◌≡◌, Bool, List, [], pos, sym, refl, ap, ◌∙◌, append-nil, arith}
 use Rattle.arith.specs.declared.operator.Operator.TheVariants as operator
 use Rattle.arith.specs.declared.comparison.Comparison.{Comparison}
-use Rattle.arith.specs.declared.comparison.Comparison.TheVariants.{Less, LessOrEqual, Greater, GreaterOrEqual, Equal, NotEqual}
 use Rattle.arith.specs.Comparisons.{comparison_number}
 use Rattle.tables.specs.declared.row.Row.{Row}
 use Rattle.tables.specs.Trees.{Sum, number, name, work, both, either, Condition, truth, compare, negate, connect, Command, set, when, choose, while, Sheet, only, joint}

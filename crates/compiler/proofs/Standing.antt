@@ -3,14 +3,13 @@ use Rattle.std.proofs.Common.{◌≡◌, ℕ, suc, ◌+◌, ◌-◌, ◌<◌, Bo
 use Rattle.std.proofs.lemmas.List.{append_assoc, length-append, get_or_at}
 use Rattle.std.proofs.lemmas.Bool.{lt-ltb}
 use Rattle.arith.specs.declared.operator.Operator.{Operator}
-use Rattle.arith.specs.declared.operator.Operator.TheVariants as operator
 use Rattle.arith.specs.Comparisons.{comparison_number}
 use Rattle.instructions.specs.declared.instruction.Instruction.{Instruction}
 use Rattle.instructions.specs.declared.instruction.Instruction.TheVariants.{Load, Save, Pop, Cmp}
 use Rattle.tables.specs.declared.kind.Kind.TheVariants as kind
 use Rattle.tables.specs.declared.row.Row.{Row}
 use Rattle.tables.specs.declared.sort.Sort.TheVariants as sort
-use Rattle.tables.specs.Trees.{Sum, number, name, work, Connective, both, either, Condition, truth, compare, negate, connect, Command, set, when, choose, while, Sheet, only, joint}
+use Rattle.tables.specs.Trees.{Sum, number, name, work, Connective, Condition, truth, compare, negate, connect, Command, set, when, choose, while, Sheet, only, joint}
 use Rattle.tables.specs.Rows.{blank, row, bit, operator_kind, connective_kind, sum_rows, condition_rows, command_rows, sheet_rows, sum_size, condition_size, command_size, sheet_size}
 use Rattle.tables.specs.Tables.{SumOver, ConditionOver, CommandOver, SheetOver}
 use Rattle.tables.proofs.OfSort.{length-in}
