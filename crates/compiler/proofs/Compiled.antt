@@ -9,6 +9,8 @@ use Rattle.tables.specs.Rows.{sheet_rows, sheet_size}
 use Rattle.tables.specs.Tables.{SumOver, ConditionOver, CommandOver, SheetOver}
 use Rattle.folds.specs.CodeLengths.{sheet_length}
 use Rattle.compiler.specs.declared.measure.Measure.{Measure}
+use Rattle.compiler.specs.declared.node.Node.{Node}
+use Rattle.compiler.specs.Nodes.{StandsBefore}
 use Rattle.compiler.specs.Code.{Line, sheet_code, instructions_of, places_of}
 use Rattle.compiler.specs.Depths.{first_deep, sheet_depths}
 use Rattle.compiler.specs.Sheets.{sheet_of}
@@ -75,7 +77,7 @@ module _ (c : ℕ) (rows : List Row) (I : List Instruction) (P : List ℕ) (slot
         short = omega (arith, n, pass.short);
       }
 
-  pub whole-laid : {R' : List Row} {e' r : ℕ} {I1 : List Instruction} {P1 : List ℕ} → (R' ≡ rows) × (e' ≡ length rows) → LaidPart R' e' 0 I P r I1 P1 → (Ok r, I1, P1) ≡ compiled c rows I P
+  pub whole-laid : {n : Node} {r : ℕ} {I1 : List Instruction} {P1 : List ℕ} → StandsBefore rows (length rows) n → LaidPart n.rows.now n.end 0 I P r I1 P1 → (Ok r, I1, P1) ≡ compiled c rows I P
   whole-laid {r = r} {I1 = I1} {P1 = P1} at laid =
       let t = pass.table.tree in
       let o = sheet-more c 64 pass.few t pass.table.over in

@@ -7,6 +7,8 @@ use Rattle.tables.specs.Rows.{blank}
 use Rattle.compiler.specs.declared.shape.Shape.{Shape}
 use Rattle.compiler.specs.declared.shape.Shape.TheVariants as shape
 use Rattle.compiler.specs.declared.lay.Code.{Code}
+use Rattle.compiler.specs.declared.node.Node.{Node}
+use Rattle.compiler.specs.Nodes.{StandsBefore}
 use Rattle.compiler.specs.Code.{Line, instructions_of, places_of}
 use Rattle.compiler.specs.Measures.{shape_of, part_count, own_length}
 use Rattle.compiler.specs.Parts.{Part, point_of, operation, own, one_code, two_code, Stands, Room, Laid, start_at, shape_at}
@@ -56,13 +58,10 @@ lines-own _ {C} {D} {r} {i} f g h =
 
 -- where a node says that it stands
 
-abbrev At : List Row → ℕ → List Row → ℕ → Type 0
-At R e R' e' = (R' ≡ R) × (e' ≡ e)
-
-pub room-at : {R R' : List Row} {e e' a i p : ℕ} {v : Part} → At R e R' e' → Room R e a i p v → Room R' e' a i p v
+pub room-at : {R : List Row} {e a i p : ℕ} {n : Node} {v : Part} → StandsBefore R e n → Room R e a i p v → Room n.rows.now n.end a i p v
 room-at h r = record { stands = standing-at h r.stands; slots = r.slots; places = r.places; short = r.short }
 
-pub lines-of : {R R' : List Row} {e e' : ℕ} {v : Part} {C D : Code} → At R e R' e' → LaysPart R' e' C D → Room R e C.next (length C.instructions.now) (length C.places.now) v → Lines (v.code C.next) C D
+pub lines-of : {R : List Row} {e : ℕ} {n : Node} {v : Part} {C D : Code} → StandsBefore R e n → LaysPart n.rows.now n.end C D → Room R e C.next (length C.instructions.now) (length C.places.now) v → Lines (v.code C.next) C D
 lines-of {v = v} h l r = record { laid = l.laid v (room-at h r); instructions = l.instructions; places = l.places }
 
 pub lays-part : {R : List Row} {e : ℕ} {C D : Code} → HasRoomIn R e C → ((v : Part) → Room R e C.next (length C.instructions.now) (length C.places.now) v → Lines (v.code C.next) C D) → LaysPart R e C D
@@ -170,10 +169,10 @@ module _ {R : List Row} {e : ℕ} {C : Code} (h : HasRoomIn R e C) {s : Shape} (
   one-room : Room R (e - 1) C.next (length C.instructions.now) (length C.places.now) one.x
   one-room = let t = one-total in room-of {C = C} one.part (space-for {C = C} (space-of {C = C} h.room.1) (omega arith))
 
-  one-lines : {R1 : List Row} {e1 : ℕ} {D : Code} → At R (e - 1) R1 e1 → LaysPart R1 e1 C D → Lines (one.x.code C.next) C D
+  one-lines : {n1 : Node} {D : Code} → StandsBefore R (e - 1) n1 → LaysPart n1.rows.now n1.end C D → Lines (one.x.code C.next) C D
   one-lines p l = lines-of p l one-room
 
-  pub one-space : {R1 : List Row} {e1 : ℕ} {D : Code} → At R (e - 1) R1 e1 → LaysPart R1 e1 C D → Space (own_length s) D
+  pub one-space : {n1 : Node} {D : Code} → StandsBefore R (e - 1) n1 → LaysPart n1.rows.now n1.end C D → Space (own_length s) D
   one-space p l =
       let t = one-total in
       space-after _ (space-of {C = C} h.room.1) (moved-lines one.part (one-lines p l)) (omega arith)
@@ -181,11 +180,11 @@ module _ {R : List Row} {e : ℕ} {C : Code} (h : HasRoomIn R e C) {s : Shape} (
   one-code : one_code s (get_or R (e - 1) blank) (one.x.code C.next) ≡ h.room.0.code C.next
   one-code = ap (λ (z : Shape). one_code z (get_or R (e - 1) blank) (one.x.code C.next)) (sym f) ∙ sym (ap (λ (w : Part). w.code C.next) one.is)
 
-pub lays-not : {R : List Row} {e : ℕ} {C : Code} (h : HasRoomIn R e C) (f : shape_at R e ≡ shape.Not) {R1 : List Row} {e1 : ℕ} {D E : Code} → At R (e - 1) R1 e1 → LaysPart R1 e1 C D → Lines (own (get_or R (e - 1) blank) ∷ []) D E → LaysPart R e C E
+pub lays-not : {R : List Row} {e : ℕ} {C : Code} (h : HasRoomIn R e C) (f : shape_at R e ≡ shape.Not) {n1 : Node} {D E : Code} → StandsBefore R (e - 1) n1 → LaysPart n1.rows.now n1.end C D → Lines (own (get_or R (e - 1) blank) ∷ []) D E → LaysPart R e C E
 lays-not h f p l l' =
     lays-part h (λ v r. relaid (one-code (record { room = (v, r) }) f refl) (lines-then (one-lines (record { room = (v, r) }) f refl p l) l'))
 
-pub lays-set : {R : List Row} {e : ℕ} {C : Code} (h : HasRoomIn R e C) (f : shape_at R e ≡ shape.Set) {R1 : List Row} {e1 x : ℕ} {r : Row} {D E F : Code} → At R (e - 1) R1 e1 → LaysPart R1 e1 C D → r ≡ get_or R (e - 1) blank → x ≡ point_of r.value → E ≡ stepped (with_line D D.next (Save x) r.place) → F ≡ stepped (with_line E E.next Pop r.place) → LaysPart R e C F
+pub lays-set : {R : List Row} {e : ℕ} {C : Code} (h : HasRoomIn R e C) (f : shape_at R e ≡ shape.Set) {n1 : Node} {x : ℕ} {r : Row} {D E F : Code} → StandsBefore R (e - 1) n1 → LaysPart n1.rows.now n1.end C D → r ≡ get_or R (e - 1) blank → x ≡ point_of r.value → E ≡ stepped (with_line D D.next (Save x) r.place) → F ≡ stepped (with_line E E.next Pop r.place) → LaysPart R e C F
 lays-set {R} {e} h f {r = r} {D = D} {E = E} {F = F} p l g i j k =
     let save : Lines ((Save (point_of r.value), r.place) ∷ []) D E = lines-put _ _ (j ∙ ap (λ (y : ℕ). stepped (with_line D D.next (Save y) r.place)) i) in
     let both : Lines ((Save (point_of r.value), r.place) ∷ (Pop, r.place) ∷ []) D F = lines-then save (lines-put _ _ k) in
@@ -209,11 +208,11 @@ module _ {R : List Row} {e : ℕ} {C : Code} (h : HasRoomIn R e C) {s : Shape} (
       ap (λ (z : Shape). two_code z (get_or R (e - 1) blank) two.x.measure.length two.y.measure.length two.x.code two.y.code C.next) (sym f)
       ∙ sym (ap (λ (w : Part). w.code C.next) two.is)
 
-  module _ {R1 : List Row} {e1 : ℕ} (p : At R (start_at R (e - 1)) R1 e1) where
-    pub left-room : HasRoomIn R1 e1 C
+  module _ {n1 : Node} (p : StandsBefore R (start_at R (e - 1)) n1) where
+    pub left-room : HasRoomIn n1.rows.now n1.end C
     left-room = record { room = (two.x, room-at p left_place) }
 
-    module _ {D : Code} (l : LaysPart R1 e1 C D) where
+    module _ {D : Code} (l : LaysPart n1.rows.now n1.end C D) where
       left-lines : Lines (two.x.code C.next) C D
       left-lines = lines-of p l left_place
 
@@ -227,14 +226,14 @@ module _ {R : List Row} {e : ℕ} {C : Code} (h : HasRoomIn R e C) {s : Shape} (
       pub gap-space : Space (own_length s) D
       gap-space = space-for left-space (omega arith)
 
-      module _ {j : ℕ} {D' : Code} (m : Moved j D D') (i : j ≤ own_length s) {R2 : List Row} {e2 : ℕ} (q : At R (e - 1) R2 e2) where
+      module _ {j : ℕ} {D' : Code} (m : Moved j D D') (i : j ≤ own_length s) {n2 : Node} (q : StandsBefore R (e - 1) n2) where
         right-place : Room R (e - 1) D'.next (length D'.instructions.now) (length D'.places.now) two.y
         right-place = room-of {C = D'} two.right (space-after _ left-space m (omega arith))
 
-        pub right-room : HasRoomIn R2 e2 D'
+        pub right-room : HasRoomIn n2.rows.now n2.end D'
         right-room = record { room = (two.y, room-at q right-place) }
 
-        module _ {E : Code} (l' : LaysPart R2 e2 D' E) where
+        module _ {E : Code} (l' : LaysPart n2.rows.now n2.end D' E) where
           right-lines : Lines (two.y.code D'.next) D' E
           right-lines = lines-of q l' right-place
 
@@ -250,7 +249,7 @@ module _ {R : List Row} {e : ℕ} {C : Code} (h : HasRoomIn R e C) {s : Shape} (
 
 -- the parts one behind the other, and then the row's own line
 
-pub lays-pair : {R : List Row} {e : ℕ} {C : Code} (h : HasRoomIn R e C) (f : shape_at R e ≡ shape.Pair) {R1 R2 : List Row} {e1 e2 : ℕ} {D E F : Code} → At R (start_at R (e - 1)) R1 e1 → At R (e - 1) R2 e2 → LaysPart R1 e1 C D → LaysPart R2 e2 D E → Lines (own (get_or R (e - 1) blank) ∷ []) E F → LaysPart R e C F
+pub lays-pair : {R : List Row} {e : ℕ} {C : Code} (h : HasRoomIn R e C) (f : shape_at R e ≡ shape.Pair) {n1 n2 : Node} {D E F : Code} → StandsBefore R (start_at R (e - 1)) n1 → StandsBefore R (e - 1) n2 → LaysPart n1.rows.now n1.end C D → LaysPart n2.rows.now n2.end D E → Lines (own (get_or R (e - 1) blank) ∷ []) E F → LaysPart R e C F
 lays-pair {R} {e} {C} h f p q l l' o =
     lays-part h (λ v r.
     let g : HasRoomIn R e C = record { room = (v, r) } in
@@ -258,7 +257,7 @@ lays-pair {R} {e} {C} h f p q l l' o =
     relaid (ap (λ (b : ℕ). T.x.code C.next ++ (T.y.code b ++ own (get_or R (e - 1) blank) ∷ [])) (left-moved g f refl p l).at ∙ two-code g f refl)
     (lines-then (left-lines g f refl p l) (lines-then (right-lines g f refl p l moved-none (omega arith) q l') o)))
 
-pub lays-joint : {R : List Row} {e : ℕ} {C : Code} (h : HasRoomIn R e C) (f : shape_at R e ≡ shape.Joint) {R1 R2 : List Row} {e1 e2 : ℕ} {D E : Code} → At R (start_at R (e - 1)) R1 e1 → At R (e - 1) R2 e2 → LaysPart R1 e1 C D → LaysPart R2 e2 D E → LaysPart R e C E
+pub lays-joint : {R : List Row} {e : ℕ} {C : Code} (h : HasRoomIn R e C) (f : shape_at R e ≡ shape.Joint) {n1 n2 : Node} {D E : Code} → StandsBefore R (start_at R (e - 1)) n1 → StandsBefore R (e - 1) n2 → LaysPart n1.rows.now n1.end C D → LaysPart n2.rows.now n2.end D E → LaysPart R e C E
 lays-joint {R} {e} {C} h f p q l l' =
     lays-part h (λ v r.
     let g : HasRoomIn R e C = record { room = (v, r) } in
@@ -268,7 +267,7 @@ lays-joint {R} {e} {C} h f p q l l' =
 
 -- with a jump between them
 
-pub lays-if : {R : List Row} {e : ℕ} {C : Code} (h : HasRoomIn R e C) (f : shape_at R e ≡ shape.If) {R1 R2 : List Row} {e1 e2 j g : ℕ} {D D' E F : Code} → At R (start_at R (e - 1)) R1 e1 → At R (e - 1) R2 e2 → g ≡ (get_or R (e - 1) blank).place → LaysPart R1 e1 C D → j ≡ D.next → D' ≡ stepped D → LaysPart R2 e2 D' E → F ≡ with_line E j (JumpF E.next) g → LaysPart R e C F
+pub lays-if : {R : List Row} {e : ℕ} {C : Code} (h : HasRoomIn R e C) (f : shape_at R e ≡ shape.If) {n1 n2 : Node} {j g : ℕ} {D D' E F : Code} → StandsBefore R (start_at R (e - 1)) n1 → StandsBefore R (e - 1) n2 → g ≡ (get_or R (e - 1) blank).place → LaysPart n1.rows.now n1.end C D → j ≡ D.next → D' ≡ stepped D → LaysPart n2.rows.now n2.end D' E → F ≡ with_line E j (JumpF E.next) g → LaysPart R e C F
 lays-if {R} {e} {C} h f {g = g} {D' = D'} {E = E} p q at l i step l' put =
     lays-part h (λ v r.
     let w : HasRoomIn R e C = record { room = (v, r) } in
@@ -281,7 +280,7 @@ lays-if {R} {e} {C} h f {g = g} {D' = D'} {E = E} p q at l i step l' put =
     relaid (rw (to, body, at) (two-code w f refl))
     (lines-around (JumpF E.next) g (left-lines w f refl p l) i step (right-lines w f refl p l m' (omega arith) q l') put))
 
-pub lays-while : {R : List Row} {e : ℕ} {C : Code} (h : HasRoomIn R e C) (f : shape_at R e ≡ shape.While) {R1 R2 : List Row} {e1 e2 j g : ℕ} {D D' E F G : Code} → At R (start_at R (e - 1)) R1 e1 → At R (e - 1) R2 e2 → g ≡ (get_or R (e - 1) blank).place → LaysPart R1 e1 C D → j ≡ D.next → D' ≡ stepped D → LaysPart R2 e2 D' E → F ≡ stepped (with_line E E.next (Jump C.next) g) → G ≡ with_line F j (JumpF F.next) g → LaysPart R e C G
+pub lays-while : {R : List Row} {e : ℕ} {C : Code} (h : HasRoomIn R e C) (f : shape_at R e ≡ shape.While) {n1 n2 : Node} {j g : ℕ} {D D' E F G : Code} → StandsBefore R (start_at R (e - 1)) n1 → StandsBefore R (e - 1) n2 → g ≡ (get_or R (e - 1) blank).place → LaysPart n1.rows.now n1.end C D → j ≡ D.next → D' ≡ stepped D → LaysPart n2.rows.now n2.end D' E → F ≡ stepped (with_line E E.next (Jump C.next) g) → G ≡ with_line F j (JumpF F.next) g → LaysPart R e C G
 lays-while {R} {e} {C} h f {g = g} {D' = D'} {E = E} {F = F} p q at l i step l' back put =
     lays-part h (λ v r.
     let w : HasRoomIn R e C = record { room = (v, r) } in
@@ -306,11 +305,11 @@ module _ {R : List Row} {e : ℕ} {C : Code} (h : HasRoomIn R e C) (f : shape_at
   first-place : Room R (start_at R (start_at R (e - 1))) C.next (length C.instructions.now) (length C.places.now) three.x
   first-place = let t = three-total in room-of {C = C} three.left (space-for {C = C} (space-of {C = C} h.room.1) (omega arith))
 
-  module _ {R1 : List Row} {e1 : ℕ} (p : At R (start_at R (start_at R (e - 1))) R1 e1) where
-    pub first-room : HasRoomIn R1 e1 C
+  module _ {n1 : Node} (p : StandsBefore R (start_at R (start_at R (e - 1))) n1) where
+    pub first-room : HasRoomIn n1.rows.now n1.end C
     first-room = record { room = (three.x, room-at p first-place) }
 
-    module _ {D : Code} (l : LaysPart R1 e1 C D) where
+    module _ {D : Code} (l : LaysPart n1.rows.now n1.end C D) where
       first-lines : Lines (three.x.code C.next) C D
       first-lines = lines-of p l first-place
 
@@ -320,14 +319,14 @@ module _ {R : List Row} {e : ℕ} {C : Code} (h : HasRoomIn R e C) (f : shape_at
       pub first-gap : Space 1 D
       first-gap = space-for first-space (omega arith)
 
-      module _ {D' : Code} (step : D' ≡ stepped D) {R2 : List Row} {e2 : ℕ} (q : At R (start_at R (e - 1)) R2 e2) where
+      module _ {D' : Code} (step : D' ≡ stepped D) {n2 : Node} (q : StandsBefore R (start_at R (e - 1)) n2) where
         second-place : Room R (start_at R (e - 1)) D'.next (length D'.instructions.now) (length D'.places.now) three.y
         second-place = room-of {C = D'} three.middle (space-after _ first-space (moved-step step) (omega arith))
 
-        pub second_room : HasRoomIn R2 e2 D'
+        pub second_room : HasRoomIn n2.rows.now n2.end D'
         second_room = record { room = (three.y, room-at q second-place) }
 
-        module _ {E : Code} (l' : LaysPart R2 e2 D' E) where
+        module _ {E : Code} (l' : LaysPart n2.rows.now n2.end D' E) where
           second-lines : Lines (three.y.code D'.next) D' E
           second-lines = lines-of q l' second-place
 
@@ -341,14 +340,14 @@ module _ {R : List Row} {e : ℕ} {C : Code} (h : HasRoomIn R e C) (f : shape_at
           pub first-kept : {i : ℕ} → i ≡ D.next → (i < length E.instructions.now) × (i < length E.places.now)
           first-kept at = left_free at first-gap (omega arith) (moved-then (moved-step step) (moved-lines three.middle second-lines))
 
-          module _ {E' : Code} (m : Moved 1 E E') {R3 : List Row} {e3 : ℕ} (o : At R (e - 1) R3 e3) where
+          module _ {E' : Code} (m : Moved 1 E E') {n3 : Node} (o : StandsBefore R (e - 1) n3) where
             third-place : Room R (e - 1) E'.next (length E'.instructions.now) (length E'.places.now) three.z
             third-place = room-of {C = E'} three.right (space-after _ second-space m (omega arith))
 
-            pub third-room : HasRoomIn R3 e3 E'
+            pub third-room : HasRoomIn n3.rows.now n3.end E'
             third-room = record { room = (three.z, room-at o third-place) }
 
-            module _ {F : Code} (l'' : LaysPart R3 e3 E' F) where
+            module _ {F : Code} (l'' : LaysPart n3.rows.now n3.end E' F) where
               third-lines : Lines (three.z.code E'.next) E' F
               third-lines = lines-of o l'' third-place
 
@@ -358,7 +357,7 @@ module _ {R : List Row} {e : ℕ} {C : Code} (h : HasRoomIn R e C) (f : shape_at
               pub second-kept : {j : ℕ} → j ≡ E.next → (j < length F.instructions.now) × (j < length F.places.now)
               second-kept at = left_free at second-gap (omega arith) (moved-then m (moved-lines three.right third-lines))
 
-pub lays-choose : {R : List Row} {e : ℕ} {C : Code} (h : HasRoomIn R e C) (f : shape_at R e ≡ shape.IfElse) {R1 R2 R3 : List Row} {e1 e2 e3 i j g : ℕ} {D D' E E' K F G : Code} → At R (start_at R (start_at R (e - 1))) R1 e1 → At R (start_at R (e - 1)) R2 e2 → At R (e - 1) R3 e3 → g ≡ (get_or R (e - 1) blank).place → LaysPart R1 e1 C D → i ≡ D.next → D' ≡ stepped D → LaysPart R2 e2 D' E → j ≡ E.next → E' ≡ stepped E → K ≡ with_line E' i (JumpF E'.next) g → LaysPart R3 e3 K F → G ≡ with_line F j (Jump F.next) g → LaysPart R e C G
+pub lays-choose : {R : List Row} {e : ℕ} {C : Code} (h : HasRoomIn R e C) (f : shape_at R e ≡ shape.IfElse) {n1 n2 n3 : Node} {i j g : ℕ} {D D' E E' K F G : Code} → StandsBefore R (start_at R (start_at R (e - 1))) n1 → StandsBefore R (start_at R (e - 1)) n2 → StandsBefore R (e - 1) n3 → g ≡ (get_or R (e - 1) blank).place → LaysPart n1.rows.now n1.end C D → i ≡ D.next → D' ≡ stepped D → LaysPart n2.rows.now n2.end D' E → j ≡ E.next → E' ≡ stepped E → K ≡ with_line E' i (JumpF E'.next) g → LaysPart n3.rows.now n3.end K F → G ≡ with_line F j (Jump F.next) g → LaysPart R e C G
 lays-choose {R} {e} {C} h f {i = i} {j = j} {g = g} {D' = D'} {E = E} {E' = E'} {K = K} {F = F} p q o at l i-is step l' j-is step' over l'' put =
     lays-part h (λ v r.
     let w : HasRoomIn R e C = record { room = (v, r) } in

@@ -6,10 +6,11 @@ use Rattle.std.proofs.lemmas.List.{length-append}
 use Rattle.tables.specs.declared.row.Row.{Row}
 use Rattle.tables.specs.Rows.{blank}
 use Rattle.compiler.specs.declared.shape.Shape.{Shape}
-use Rattle.compiler.specs.declared.shape.Shape.TheVariants as shape
+use Rattle.compiler.specs.declared.node.Node.{Node}
+use Rattle.compiler.specs.Nodes.{StandsBefore}
 use Rattle.compiler.specs.Code.{Line}
 use Rattle.compiler.specs.declared.measure.Measure.{Measure}
-use Rattle.compiler.specs.Measures.{shape_of, part_count, own_length, two_depth, one_measure, two_measure, three_measure}
+use Rattle.compiler.specs.Measures.{shape_of, part_count, own_length, two_depth}
 use Rattle.compiler.specs.Parts.{Part, zero_part, one_code, one_part, two_code, two_part, three_code, three_part, Own, Stands, zero-stands, one-stands, two-stands, three-stands, IsPart, start_at, shape_at}
 
 -- what the last row of a part says
@@ -127,27 +128,13 @@ shallow R e v (three-stands {r = r} {x = x} {y = y} {z = z} o f g h) =
 -- a part's code is as long as was measured
 
 one-long : (s : Shape) (r : Row) (x : List Line) (n : ℕ) → part_count s ≡ 1 → length x ≡ n → length (one_code s r x) ≡ n + own_length s
-one-long shape.Leaf r x n k e = absurd (omega arith)
-one-long shape.Not r x n k e = simp length-append (omega arith)
-one-long shape.Pair r x n k e = absurd (omega arith)
-one-long shape.Set r x n k e = simp length-append (omega arith)
-one-long shape.If r x n k e = absurd (omega arith)
-one-long shape.IfElse r x n k e = absurd (omega arith)
-one-long shape.While r x n k e = absurd (omega arith)
-one-long shape.Joint r x n k e = absurd (omega arith)
+one-long s r x n k e = grind (arith, length-append {A = Line})
 
 abbrev Long : ℕ → (ℕ → List Line) → Type 0
 Long n x = (a : ℕ) → length (x a) ≡ n
 
 two-long : (s : Shape) (r : Row) (m n : ℕ) (x y : ℕ → List Line) → part_count s ≡ 2 → Long m x → Long n y → (a : ℕ) → length (two_code s r m n x y a) ≡ m + n + own_length s
-two-long shape.Leaf r m n x y k e f a = absurd (omega arith)
-two-long shape.Not r m n x y k e f a = absurd (omega arith)
-two-long shape.Pair r m n x y k e f a = simp (length-append, e, f) (omega arith)
-two-long shape.Set r m n x y k e f a = absurd (omega arith)
-two-long shape.If r m n x y k e f a = simp (length-append, e, f) (omega arith)
-two-long shape.IfElse r m n x y k e f a = absurd (omega arith)
-two-long shape.While r m n x y k e f a = simp (length-append, e, f) (omega arith)
-two-long shape.Joint r m n x y k e f a = simp (length-append, e, f) (omega arith)
+two-long s r m n x y k e f a = grind (arith, length-append {A = Line}, e, f)
 
 three-long : (r : Row) (m n k : ℕ) (x y z : ℕ → List Line) → Long m x → Long n y → Long k z → (a : ℕ) → length (three_code r m n k x y z a) ≡ m + n + k + 2
 three-long r m n k x y z e f g a = simp (length-append, e, f, g) (omega arith)
@@ -187,32 +174,9 @@ pub first-part : (R : List Row) (e : ℕ) → IsPart R e → part_count (shape_a
 first-part R e h k = ∥∥₁_map h (λ h. let O = three-of R e h.0 h.1 k in (O.x, O.left))
 
 -- where a node says that it stands
-pub standing-at : {R R' : List Row} {e e' : ℕ} {v : Part} → (R' ≡ R) × (e' ≡ e) → Stands R e v → Stands R' e' v
-standing-at {R} {R'} {e} {e'} {v} h s =
-    subst (λ (xs : List Row). Stands xs e' v) (sym h.0) (subst (λ (n : ℕ). Stands R n v) (sym h.1) s)
-
-pub measured-one : (R : List Row) (e : ℕ) (v : Part) (r : Row) (s : Shape) (m x : Measure) (O : OneOf R e v) → r ≡ get_or R (e - 1) blank → s ≡ shape_of r.kind → x ≡ O.x.measure → m ≡ one_measure s r.place x → m ≡ v.measure
-measured-one R e v r s m x O f g h i =
-    i ∙ ap (λ (z : Measure). one_measure s r.place z) h
-    ∙ ap (λ (z : Shape). one_measure z r.place O.x.measure) g
-    ∙ ap (λ (z : Row). one_measure (shape_of z.kind) z.place O.x.measure) f
-    ∙ sym (ap (λ (z : Part). z.measure) O.is)
-
-pub measured-two : (R : List Row) (e : ℕ) (v : Part) (r : Row) (s : Shape) (m x y : Measure) (O : TwoOf R e v) → r ≡ get_or R (e - 1) blank → s ≡ shape_of r.kind → x ≡ O.x.measure → y ≡ O.y.measure → m ≡ two_measure s r.place x y → m ≡ v.measure
-measured-two R e v r s m x y O f g h i j =
-    j ∙ ap (λ (z : Measure). two_measure s r.place z y) h
-    ∙ ap (λ (z : Measure). two_measure s r.place O.x.measure z) i
-    ∙ ap (λ (z : Shape). two_measure z r.place O.x.measure O.y.measure) g
-    ∙ ap (λ (z : Row). two_measure (shape_of z.kind) z.place O.x.measure O.y.measure) f
-    ∙ sym (ap (λ (z : Part). z.measure) O.is)
-
-pub measured-three : (R : List Row) (e : ℕ) (v : Part) (r : Row) (m x y z : Measure) (O : ThreeOf R e v) → r ≡ get_or R (e - 1) blank → x ≡ O.x.measure → y ≡ O.y.measure → z ≡ O.z.measure → m ≡ three_measure r.place x y z → m ≡ v.measure
-measured-three R e v r m x y z O f g h i j =
-    j ∙ ap (λ (w : Measure). three_measure r.place w y z) g
-    ∙ ap (λ (w : Measure). three_measure r.place O.x.measure w z) h
-    ∙ ap (λ (w : Measure). three_measure r.place O.x.measure O.y.measure w) i
-    ∙ ap (λ (w : Row). three_measure w.place O.x.measure O.y.measure O.z.measure) f
-    ∙ sym (ap (λ (w : Part). w.measure) O.is)
+pub standing-at : {R : List Row} {e : ℕ} {n : Node} {v : Part} → StandsBefore R e n → Stands R e v → Stands n.rows.now n.end v
+standing-at {R} {e} {n} {v} h s =
+    subst (λ (xs : List Row). Stands xs n.end v) (sym h.rows) (subst (λ (k : ℕ). Stands R k v) (sym h.end) s)
 
 -- what was measured of a node in at most 2,048 rows is small
 pub record Small (m : Measure) : Type 0 where

@@ -11,6 +11,8 @@ use Rattle.compiler.specs.Laws.{Compilable}
 use Rattle.compiler.proofs.Shallow.{none-sheet}
 use Rattle.folds.specs.CodeLengths.{sheet_length}
 use Rattle.compiler.specs.declared.measure.Measure.{Measure}
+use Rattle.compiler.specs.declared.node.Node.{Node}
+use Rattle.compiler.specs.Nodes.{StandsBefore}
 use Rattle.compiler.specs.Depths.{first_of, first_deep, sheet_depths}
 use Rattle.compiler.specs.Sheets.{sheet_of}
 use Rattle.compiler.specs.Compiles.{depth_refusal, room_refusal, code_refusal, refusal}
@@ -20,7 +22,7 @@ use Rattle.compiler.proofs.Standing.{sheet-stands}
 use Rattle.compiler.proofs.Sheeting.{sheet-of}
 
 -- the limits on code, by what was measured
-pub by-measure : {c : ℕ} {rows R : List Row} {e : ℕ} (T : Table c rows) (slots : ℕ) (m : Measure) → (R ≡ rows) × (e ≡ length rows) → ((v : Part) → Stands R e v → m ≡ v.measure) → code_refusal (sheet_of rows) slots ≡ first_of (depth_refusal m.deep) (room_refusal m.length slots)
+pub by-measure : {c : ℕ} {rows : List Row} {n : Node} (T : Table c rows) (slots : ℕ) (m : Measure) → StandsBefore rows (length rows) n → ((v : Part) → Stands n.rows.now n.end v → m ≡ v.measure) → code_refusal (sheet_of rows) slots ≡ first_of (depth_refusal m.deep) (room_refusal m.length slots)
 by-measure {rows = rows} T slots m at f =
     let S = sheet-stands T.tree rows T.listed in
     ap (λ (u : Sheet). code_refusal u slots) (sheet-of T.tree rows T.listed)

@@ -1,10 +1,9 @@
 -- Every sheet comes back from its code.
-use Rattle.std.proofs.Common.{◌≡◌, ℕ, ◌+◌, ◌<◌, ◌≤◌, Bool, true, false, cond, List, [], ◌∷◌, ◌++◌, Some, None, Option, sym, refl, ap, ◌∙◌, arith}
+use Rattle.std.proofs.Common.{◌≡◌, ℕ, ◌+◌, ◌<◌, ◌≤◌, Bool, cond, List, [], ◌∷◌, ◌++◌, Some, None, Option, sym, refl, ap, ◌∙◌, arith}
 use Rattle.std.proofs.lemmas.Bool.{eq-eqb, ne_eqb, lt-ltb, le-ltb}
 use Rattle.arith.specs.declared.operator.Operator.{Operator}
-use Rattle.arith.specs.declared.operator.Operator.TheVariants as operator
 use Rattle.instructions.specs.declared.instruction.Instruction.TheVariants.{Save, Pop, Cmp, Inv, JumpF, Jump}
-use Rattle.tables.specs.Trees.{Sum, number, name, work, Connective, both, either, Condition, truth, compare, negate, connect, Command, set, when, choose, while, Sheet, only, joint}
+use Rattle.tables.specs.Trees.{Sum, number, name, work, Connective, Condition, truth, compare, negate, connect, Command, set, when, choose, while, Sheet, only, joint}
 use Rattle.tables.specs.Rows.{bit}
 use Rattle.folds.specs.CodeLengths.{sum_length, condition_length, command_length, sheet_length}
 use Rattle.compiler.specs.Code.{Line, operator_instruction, connective_instruction, sum_code, condition_code, command_code, sheet_code, instructions_of}
@@ -34,26 +33,16 @@ condition_left (negate q c) = of_condition (negate 0 (bare_condition c))
 condition_left (connect q j c d) = of_condition (connect 0 j (bare_condition c) (bare_condition d))
 
 sum_left_lem : (e : Sum) → value_sum (sum_left e) ≡ bare_sum e
-sum_left_lem (number q v) = refl
-sum_left_lem (name q p) = refl
-sum_left_lem (work q o l r) = refl
+sum_left_lem e = grind arith
 
 condition-left : (c : Condition) → value_condition (condition_left c) ≡ bare_condition c
-condition-left (truth q true) = refl
-condition-left (truth q false) = refl
-condition-left (compare q k l r) = refl
-condition-left (negate q c) = refl
-condition-left (connect q j c d) = refl
+condition-left c = grind arith
 
 operator-read : (o : Operator) (a : ℕ) (x y : Value) (vs : List Value) (cs : List Command) (bs : List Body) → read_one (operator_instruction o) (reading a (y ∷ (x ∷ vs)) cs bs) ≡ reading (a + 1) (of_sum (work 0 o (value_sum x) (value_sum y)) ∷ vs) cs bs
-operator-read operator.Add a x y vs cs bs = refl
-operator-read operator.Sub a x y vs cs bs = refl
-operator-read operator.Mul a x y vs cs bs = refl
-operator-read operator.Div a x y vs cs bs = refl
+operator-read o a x y vs cs bs = grind arith
 
 connective-read : (j : Connective) (a : ℕ) (x y : Value) (vs : List Value) (cs : List Command) (bs : List Body) → read_one (connective_instruction j) (reading a (y ∷ (x ∷ vs)) cs bs) ≡ reading (a + 1) (of_condition (connect 0 j (value_condition x) (value_condition y)) ∷ vs) cs bs
-connective-read both a x y vs cs bs = refl
-connective-read either a x y vs cs bs = refl
+connective-read j a x y vs cs bs = grind arith
 
 module _ (cs : List Command) (bs : List Body) where
   sum-read : (e : Sum) (a b : ℕ) (vs : List Value) → b ≡ a + sum_length e → reads (sum_code e) (reading a vs cs bs) ≡ reading b (sum_left e ∷ vs) cs bs

@@ -1,8 +1,7 @@
 -- The sheet put together from a table's rows is the sheet that has them.
-use Rattle.std.proofs.Common.{◌≡◌, Bool, true, false, List, [], pos, sym, refl, ap, ◌∙◌, append-nil}
+use Rattle.std.proofs.Common.{◌≡◌, Bool, List, [], pos, sym, refl, ap, ◌∙◌, append-nil, arith}
 use Rattle.arith.specs.declared.operator.Operator.TheVariants as operator
 use Rattle.arith.specs.declared.comparison.Comparison.{Comparison}
-use Rattle.arith.specs.declared.comparison.Comparison.TheVariants.{Less, LessOrEqual, Greater, GreaterOrEqual, Equal, NotEqual}
 use Rattle.arith.specs.Comparisons.{comparison_number}
 use Rattle.tables.specs.declared.row.Row.{Row}
 use Rattle.tables.specs.Trees.{Sum, number, name, work, both, either, Condition, truth, compare, negate, connect, Command, set, when, choose, while, Sheet, only, joint}
@@ -13,16 +12,10 @@ use Rattle.tables.proofs.Passing.{pass-sheet}
 use Rattle.compiler.specs.Sheets.{sum, condition, command, as_sheet, truth_of, comparison_of, tree_sums, tree_rest, left_tree, sheet_of}
 
 pub comparison-back : (k : Comparison) → comparison_of (pos (comparison_number k)) ≡ k
-comparison-back Less = refl
-comparison-back LessOrEqual = refl
-comparison-back Greater = refl
-comparison-back GreaterOrEqual = refl
-comparison-back Equal = refl
-comparison-back NotEqual = refl
+comparison-back k = grind arith
 
 truth-back : (b : Bool) → truth_of (bit b) ≡ b
-truth-back true = refl
-truth-back false = refl
+truth-back b = grind arith
 
 sum_back : (t : Sum) → sum_value tree_sums t ≡ sum t
 sum_back (number q v) = refl

@@ -3,14 +3,13 @@ use Rattle.std.proofs.Common.{◌≡◌, ℕ, suc, ◌+◌, ◌-◌, ◌<◌, Bo
 use Rattle.std.proofs.lemmas.List.{append_assoc, length-append, get_or_at}
 use Rattle.std.proofs.lemmas.Bool.{lt-ltb}
 use Rattle.arith.specs.declared.operator.Operator.{Operator}
-use Rattle.arith.specs.declared.operator.Operator.TheVariants as operator
 use Rattle.arith.specs.Comparisons.{comparison_number}
 use Rattle.instructions.specs.declared.instruction.Instruction.{Instruction}
 use Rattle.instructions.specs.declared.instruction.Instruction.TheVariants.{Load, Save, Pop, Cmp}
 use Rattle.tables.specs.declared.kind.Kind.TheVariants as kind
 use Rattle.tables.specs.declared.row.Row.{Row}
 use Rattle.tables.specs.declared.sort.Sort.TheVariants as sort
-use Rattle.tables.specs.Trees.{Sum, number, name, work, Connective, both, either, Condition, truth, compare, negate, connect, Command, set, when, choose, while, Sheet, only, joint}
+use Rattle.tables.specs.Trees.{Sum, number, name, work, Connective, Condition, truth, compare, negate, connect, Command, set, when, choose, while, Sheet, only, joint}
 use Rattle.tables.specs.Rows.{blank, row, bit, operator_kind, connective_kind, sum_rows, condition_rows, command_rows, sheet_rows, sum_size, condition_size, command_size, sheet_size}
 use Rattle.tables.specs.Tables.{SumOver, ConditionOver, CommandOver, SheetOver}
 use Rattle.tables.proofs.OfSort.{length-in}
@@ -73,18 +72,7 @@ own_at R pre xs post r n k e i l j s p =
 -- code by parts with the same code
 
 two-same : (s : Shape) (r : Row) (m m' n n' : ℕ) (x y c c' : ℕ → List Line) → m ≡ m' → n ≡ n' → ((a : ℕ) → x a ≡ c a) → ((a : ℕ) → y a ≡ c' a) → (a : ℕ) → two_code s r m n x y a ≡ two_code s r m' n' c c' a
-two-same s r m m' n n' x y c c' e f g h a =
-    ap (λ (k : ℕ). two_code s r k n x y a) e ∙ ap (λ (k : ℕ). two_code s r m' k x y a) f ∙ pointwise s
-  where
-    pointwise : (s : Shape) → two_code s r m' n' x y a ≡ two_code s r m' n' c c' a
-    pointwise shape.Leaf = refl
-    pointwise shape.Not = refl
-    pointwise shape.Pair = simp (g, h)
-    pointwise shape.Set = refl
-    pointwise shape.If = simp (g, h)
-    pointwise shape.IfElse = refl
-    pointwise shape.While = simp (g, h)
-    pointwise shape.Joint = simp (g, h)
+two-same s r m m' n n' x y c c' e f g h a = rw (e, f) (grind (arith, g, h))
 
 three-same : (r : Row) (m m' n n' k k' : ℕ) (x y z c c' c'' : ℕ → List Line) → m ≡ m' → n ≡ n' → k ≡ k' → ((a : ℕ) → x a ≡ c a) → ((a : ℕ) → y a ≡ c' a) → ((a : ℕ) → z a ≡ c'' a) → (a : ℕ) → three_code r m n k x y z a ≡ three_code r m' n' k' c c' c'' a
 three-same r m m' n n' k k' x y z c c' c'' e f g h i j a = rw (e, f, g) (simp (h, i, j))
@@ -93,24 +81,16 @@ point-same : (p : ℕ) → p < 64 → point_of (pos p) ≡ p
 point-same p l = ap (λ (b : Bool). cond b p 0) (lt-ltb p 64 l)
 
 operator-shape : (o : Operator) → shape_of (operator_kind o) ≡ shape.Pair
-operator-shape operator.Add = refl
-operator-shape operator.Sub = refl
-operator-shape operator.Mul = refl
-operator-shape operator.Div = refl
+operator-shape o = grind arith
 
 operator-own : (o : Operator) → operation (operator_kind o) (pos 0) ≡ operator_instruction o
-operator-own operator.Add = refl
-operator-own operator.Sub = refl
-operator-own operator.Mul = refl
-operator-own operator.Div = refl
+operator-own o = grind arith
 
 connective-shape : (j : Connective) → shape_of (connective_kind j) ≡ shape.Pair
-connective-shape both = refl
-connective-shape either = refl
+connective-shape j = grind arith
 
 connective-own : (j : Connective) → operation (connective_kind j) (pos 0) ≡ connective_instruction j
-connective-own both = refl
-connective-own either = refl
+connective-own j = grind arith
 
 module _ {R : List Row} where
   zero-any : (r : Row) → r.size ≡ 1 → part_count (shape_of r.kind) ≡ 0 → Anywhere R (r ∷ []) 1 leaf_measure (Unit {0}) (λ a. own r ∷ [])

@@ -4,6 +4,7 @@ pub mod Sheets
 pub mod Lists
 pub mod Measures
 pub mod Parts
+pub mod Nodes
 pub mod Written
 pub mod Compiles
 pub mod Bare

@@ -1,6 +1,6 @@
 -- What is measured of a row's tree, from its parts' measures: how long its code is, how deep the stack becomes, and the
 -- first row of it that is too deep. On a whole sheet these are the folds' length and depth, and the first of all depths.
-use Rattle.std.specs.Prelude.{ℕ, ◌+◌, max, None, Option}
+use Rattle.std.specs.Prelude.{◌≡◌, ℕ, ◌+◌, max, None, Option}
 use Rattle.tables.specs.declared.kind.Kind.{Kind}
 use Rattle.tables.specs.declared.kind.Kind.TheVariants as kind
 use Rattle.compiler.specs.declared.shape.Shape.{Shape}
@@ -25,6 +25,9 @@ shape_of kind.If = If
 shape_of kind.IfElse = IfElse
 shape_of kind.While = While
 shape_of kind.Joint = Joint
+
+abbrev pub IsShapeOf : Kind → Shape → Type 0
+IsShapeOf k s = s ≡ shape_of k
 
 abbrev pub part_count : Shape → ℕ
 part_count Leaf = 0

@@ -1,5 +1,5 @@
-// Laying the code of a node's tree, known to have room. A jump over code is written once that code is laid, since its
-// target is the next address then.
+// Laying the code of a node's tree, known to have room: a fact on the node and the code together, so each function that
+// lays one asks for it. A jump over code is written once that code is laid, since its target is the next address then.
 ghost use Rattle.std.specs.Prelude.{◌≡◌, ◌<◌, length};
 ghost use Rattle.compiler.specs.Parts.{shape_at};
 ghost use Rattle.compiler.specs.Written.{HasRoomIn, LaysPart, stepped, with_line};
@@ -25,7 +25,7 @@ impl Code<'_> {
         ensures { LaysPart node.entry.rows.now node.entry.end self.old self.new }
     {
         let row = node.row();
-        match Shape::of(row.kind) {
+        match Shape::from(row.kind) {
             Shape::Leaf => self.put(instruction_of(row), row.place),
             Shape::Not => {
                 self.lay(node.last());

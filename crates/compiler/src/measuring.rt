@@ -11,7 +11,7 @@ pub(crate) fn measure(node: Node<'_>) -> Measure
     ensures { (v : Part) → Stands node.entry.rows.now node.entry.end v → result ≡ v.measure }
 {
     let row = node.row();
-    let shape = Shape::of(row.kind);
+    let shape = Shape::from(row.kind);
     match shape {
         Shape::Leaf => Measure::leaf(),
         Shape::Not | Shape::Set => Measure::of_one(shape, row.place, measure(node.last())),

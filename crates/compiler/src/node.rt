@@ -18,10 +18,12 @@ pub(crate) struct Node<'a> {
 }
 
 impl<'a> Node<'a> {
+    ghost use Rattle.compiler.specs.Nodes.{StandsBefore};
+
     // A table's last row, whose tree is the whole sheet.
     pub(crate) fn sheet(rows: &'a [Row]) -> Node<'a>
         requires { (count : ℕ) × TableOf count rows.now }
-        ensures { (result.rows.now ≡ rows.now) × (result.end ≡ length rows.now) }
+        ensures { StandsBefore rows.now (length rows.now) result }
     {
         Node {
             rows,
@@ -38,7 +40,7 @@ impl<'a> Node<'a> {
     // Its only part, or the last of them.
     pub(crate) fn last(self) -> Node<'a>
         requires { IsPart self.rows.now (self.end - 1) }
-        ensures { (result.rows.now ≡ self.entry.rows.now) × (result.end ≡ self.entry.end - 1) }
+        ensures { StandsBefore self.entry.rows.now (self.entry.end - 1) result }
     {
         Node {
             rows: self.rows,
@@ -49,7 +51,7 @@ impl<'a> Node<'a> {
     // The part that ends where this one begins.
     fn before(self) -> Node<'a>
         requires { IsPart self.rows.now (start_at self.rows.now self.end) }
-        ensures { (result.rows.now ≡ self.entry.rows.now) × (result.end ≡ start_at self.entry.rows.now self.entry.end) }
+        ensures { StandsBefore self.entry.rows.now (start_at self.entry.rows.now self.entry.end) result }
     {
         Node {
             rows: self.rows,
@@ -59,8 +61,8 @@ impl<'a> Node<'a> {
 
     pub(crate) fn two(self) -> (Node<'a>, Node<'a>)
         requires { part_count (shape_at self.rows.now self.end) ≡ 2 }
-        ensures left { (result.0.rows.now ≡ self.entry.rows.now) × (result.0.end ≡ start_at self.entry.rows.now (self.entry.end - 1)) }
-        ensures right { (result.1.rows.now ≡ self.entry.rows.now) × (result.1.end ≡ self.entry.end - 1) }
+        ensures left { StandsBefore self.entry.rows.now (start_at self.entry.rows.now (self.entry.end - 1)) result.0 }
+        ensures right { StandsBefore self.entry.rows.now (self.entry.end - 1) result.1 }
     {
         let right = self.last();
         (right.before(), right)
@@ -68,9 +70,9 @@ impl<'a> Node<'a> {
 
     pub(crate) fn three(self) -> (Node<'a>, Node<'a>, Node<'a>)
         requires { part_count (shape_at self.rows.now self.end) ≡ 3 }
-        ensures first { (result.0.rows.now ≡ self.entry.rows.now) × (result.0.end ≡ start_at self.entry.rows.now (start_at self.entry.rows.now (self.entry.end - 1))) }
-        ensures second { (result.1.rows.now ≡ self.entry.rows.now) × (result.1.end ≡ start_at self.entry.rows.now (self.entry.end - 1)) }
-        ensures third { (result.2.rows.now ≡ self.entry.rows.now) × (result.2.end ≡ self.entry.end - 1) }
+        ensures first { StandsBefore self.entry.rows.now (start_at self.entry.rows.now (start_at self.entry.rows.now (self.entry.end - 1))) result.0 }
+        ensures second { StandsBefore self.entry.rows.now (start_at self.entry.rows.now (self.entry.end - 1)) result.1 }
+        ensures third { StandsBefore self.entry.rows.now (self.entry.end - 1) result.2 }
     {
         let third = self.last();
         let second = third.before();

@@ -3,6 +3,7 @@ ghost use Rattle.std.specs.Prelude.{◌≡◌, ℕ, IfOk, length};
 ghost use Rattle.std.specs.Result.{result_err};
 ghost use Rattle.tables.specs.Tables.{Table as TableOf};
 ghost use Rattle.compiler.specs.Compiles.{code_refusal, refusal};
+ghost use Rattle.compiler.specs.Nodes.{StandsBefore};
 ghost use Rattle.compiler.specs.Sheets.{sheet_of};
 
 use crate::measuring::measure;
@@ -16,7 +17,7 @@ pub const MOST_INSTRUCTIONS: usize = 1024;
 // sheet may be mended first.
 pub(crate) fn admit<'a>(rows: &'a [Row], points: usize, slots: usize) -> Result<Node<'a>, Fault>
     ensures refused { result_err result ≡ refusal points rows.now slots }
-    ensures whole { IfOk result (λ sheet. (sheet.rows.now ≡ rows.now) × (sheet.end ≡ length rows.now)) }
+    ensures whole { IfOk result (StandsBefore rows.now (length rows.now)) }
 {
     match Table::check(rows, points) {
         Ok(_) => within_limits(rows, slots),
@@ -31,7 +32,7 @@ pub(crate) fn admit<'a>(rows: &'a [Row], points: usize, slots: usize) -> Result<
 fn within_limits<'a>(rows: &'a [Row], slots: usize) -> Result<Node<'a>, Fault>
     requires { (count : ℕ) × TableOf count rows.now }
     ensures refused { result_err result ≡ code_refusal (sheet_of rows.now) slots }
-    ensures whole { IfOk result (λ sheet. (sheet.rows.now ≡ rows.now) × (sheet.end ≡ length rows.now)) }
+    ensures whole { IfOk result (StandsBefore rows.now (length rows.now)) }
 {
     let sheet = Node::sheet(rows);
     let measured = measure(sheet);

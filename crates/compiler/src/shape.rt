@@ -1,6 +1,6 @@
 // How a row's code is made of its parts' code: the sixteen kinds come down to eight shapes.
 ghost use Rattle.std.specs.Prelude.{◌≡◌};
-ghost use Rattle.compiler.specs.Measures.{shape_of, own_length};
+ghost use Rattle.compiler.specs.Measures.{shape_of, IsShapeOf, own_length};
 
 use tables::Kind;
 
@@ -18,8 +18,10 @@ pub enum Shape {
     Joint,
 }
 
-impl Shape {
-    pub(crate) fn of(kind: Kind) -> Shape
+impl From<Kind> for Shape {
+    ghost from_gives = { IsShapeOf };
+
+    fn from(kind: Kind) -> Shape
         ensures { result ≡ shape_of kind }
     {
         match kind {
@@ -34,7 +36,9 @@ impl Shape {
             Kind::Joint => Shape::Joint,
         }
     }
+}
 
+impl Shape {
     // How many instructions a row adds to its parts' code.
     pub(crate) fn own_length(self) -> u32
         ensures { result ≡ own_length self }

@@ -7,8 +7,6 @@ use std::process::Abort;
 use std::test::Fail;
 use tables::{Kind, Row};
 
-type Brief = (Kind, i32, u16, u16);
-
 const fn row(kind: Kind, value: i32, size: u16, place: u16) -> Row {
     Row {
         kind,
@@ -18,14 +16,6 @@ const fn row(kind: Kind, value: i32, size: u16, place: u16) -> Row {
     }
 }
 
-fn rows_of(heap: Global, table: &[Brief]) -> Result<Vec<Row>, AllocError> {
-    let mut rows = Vec::new(heap);
-    for (kind, value, size, place) in table {
-        rows.push(row(*kind, *value, *size, *place))?;
-    }
-    Ok(rows)
-}
-
 // The lists are longer than the code, and what is past it stays.
 fn same_code(rt: &impl Abort, rows: &[Row], expected: &[(Instruction, u16)]) -> Result<(), Fail> {
     let mut instructions = [Instruction::Jump(7); 40];
@@ -33,10 +23,10 @@ fn same_code(rt: &impl Abort, rows: &[Row], expected: &[(Instruction, u16)]) -> 
     let length = compile(rows, 2, &mut instructions, &mut places)?;
     assert_eq!(rt; length, expected.len());
     for (i, (instruction, place)) in instructions.iter().zip(places.iter()).enumerate() {
-        let (wanted, at) = match expected.get(i) {
-            Some(line) => *line,
-            None => (Instruction::Jump(7), 999),
-        };
+        let (wanted, at) = expected
+            .get(i)
+            .copied()
+            .unwrap_or((Instruction::Jump(7), 999));
         assert_eq!(rt; *instruction, wanted);
         assert_eq!(rt; *place, at);
     }
@@ -46,30 +36,27 @@ fn same_code(rt: &impl Abort, rows: &[Row], expected: &[(Instruction, u16)]) -> 
 // fact = 1; while (x > 1) { fact = fact * x; x = x - 1; }, where fact is point 0 and x is point 1
 #[test]
 fn a_loop(rt: HostRuntime) -> Result<(), Fail> {
-    let rows = rows_of(
-        rt.alloc(),
-        &[
-            (Kind::Number, 1, 1, 7),
-            (Kind::Set, 0, 2, 0),
-            (Kind::Name, 1, 1, 17),
-            (Kind::Number, 1, 1, 21),
-            (Kind::Compare, 2, 3, 19),
-            (Kind::Name, 0, 1, 33),
-            (Kind::Name, 1, 1, 40),
-            (Kind::Mul, 0, 3, 38),
-            (Kind::Set, 0, 4, 26),
-            (Kind::Name, 1, 1, 47),
-            (Kind::Number, 1, 1, 51),
-            (Kind::Sub, 0, 3, 49),
-            (Kind::Set, 1, 4, 43),
-            (Kind::Joint, 0, 9, 43),
-            (Kind::While, 0, 13, 10),
-            (Kind::Joint, 0, 16, 10),
-        ],
-    )?;
+    let rows = [
+        row(Kind::Number, 1, 1, 7),
+        row(Kind::Set, 0, 2, 0),
+        row(Kind::Name, 1, 1, 17),
+        row(Kind::Number, 1, 1, 21),
+        row(Kind::Compare, 2, 3, 19),
+        row(Kind::Name, 0, 1, 33),
+        row(Kind::Name, 1, 1, 40),
+        row(Kind::Mul, 0, 3, 38),
+        row(Kind::Set, 0, 4, 26),
+        row(Kind::Name, 1, 1, 47),
+        row(Kind::Number, 1, 1, 51),
+        row(Kind::Sub, 0, 3, 49),
+        row(Kind::Set, 1, 4, 43),
+        row(Kind::Joint, 0, 9, 43),
+        row(Kind::While, 0, 13, 10),
+        row(Kind::Joint, 0, 16, 10),
+    ];
     same_code(
         &rt,
-        rows.as_slice(),
+        &rows,
         &[
             (Instruction::Push(1), 7),
             (Instruction::Save(0), 0),
@@ -96,33 +83,30 @@ fn a_loop(rt: HostRuntime) -> Result<(), Fail> {
 // if (!(p0 + 2 / 1 == p1) || true && false) { p0 = 3; } else { if (true) { p1 = 4; } }, each place its row's index
 #[test]
 fn branches(rt: HostRuntime) -> Result<(), Fail> {
-    let rows = rows_of(
-        rt.alloc(),
-        &[
-            (Kind::Name, 0, 1, 0),
-            (Kind::Number, 2, 1, 1),
-            (Kind::Number, 1, 1, 2),
-            (Kind::Div, 0, 3, 3),
-            (Kind::Add, 0, 5, 4),
-            (Kind::Name, 1, 1, 5),
-            (Kind::Compare, 4, 7, 6),
-            (Kind::Not, 0, 8, 7),
-            (Kind::Truth, 1, 1, 8),
-            (Kind::Truth, 0, 1, 9),
-            (Kind::And, 0, 3, 10),
-            (Kind::Or, 0, 12, 11),
-            (Kind::Number, 3, 1, 12),
-            (Kind::Set, 0, 2, 13),
-            (Kind::Truth, 1, 1, 14),
-            (Kind::Number, 4, 1, 15),
-            (Kind::Set, 1, 2, 16),
-            (Kind::If, 0, 4, 17),
-            (Kind::IfElse, 0, 19, 18),
-        ],
-    )?;
+    let rows = [
+        row(Kind::Name, 0, 1, 0),
+        row(Kind::Number, 2, 1, 1),
+        row(Kind::Number, 1, 1, 2),
+        row(Kind::Div, 0, 3, 3),
+        row(Kind::Add, 0, 5, 4),
+        row(Kind::Name, 1, 1, 5),
+        row(Kind::Compare, 4, 7, 6),
+        row(Kind::Not, 0, 8, 7),
+        row(Kind::Truth, 1, 1, 8),
+        row(Kind::Truth, 0, 1, 9),
+        row(Kind::And, 0, 3, 10),
+        row(Kind::Or, 0, 12, 11),
+        row(Kind::Number, 3, 1, 12),
+        row(Kind::Set, 0, 2, 13),
+        row(Kind::Truth, 1, 1, 14),
+        row(Kind::Number, 4, 1, 15),
+        row(Kind::Set, 1, 2, 16),
+        row(Kind::If, 0, 4, 17),
+        row(Kind::IfElse, 0, 19, 18),
+    ];
     same_code(
         &rt,
-        rows.as_slice(),
+        &rows,
         &[
             (Instruction::Load(0), 0),
             (Instruction::Push(2), 1),

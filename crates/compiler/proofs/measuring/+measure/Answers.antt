@@ -1,8 +1,8 @@
 -- Each part's measure is known, and a row's is made of them.
-use Rattle.std.proofs.Common.{◌≡◌, arith, rules}
+use Rattle.std.proofs.Common.{◌≡◌, sym, ap, arith, rules}
 use Rattle.compiler.specs.Measures.{part_count}
-use Rattle.compiler.specs.Parts.{shape_at}
-use Rattle.compiler.proofs.Parting.{last-part, small, two-of, three-of, measured-two, measured-three, standing-at}
+use Rattle.compiler.specs.Parts.{Part, shape_at}
+use Rattle.compiler.proofs.Parting.{last-part, small, two-of, three-of, standing-at}
 use Rattle.compiler.proofs.measuring.+measure.Goals as goal
 
 -- one part
@@ -42,7 +42,7 @@ returns-in-Pair t c v s =
     let O = two-of R e v s k in
     let x = c.measure-in-Pair.ensures O.x (standing-at c.two.ensures.left O.left) in
     let y = c.measure-in-Pair-2.ensures O.y (standing-at c.two.ensures.right O.right) in
-    measured-two R e v c.row-row.result c.of-shape.result c.of_two.result c.measure-in-Pair.result c.measure-in-Pair-2.result O c.row-row.ensures c.of-shape.ensures x y c.of_two.ensures
+    rw (c.of_two.ensures, x, y, c.from-shape.ensures, c.row-row.ensures) (sym (ap (λ (w : Part). w.measure) O.is))
 
 pub returns-in-IfElse : goal.returns-in-IfElse
 returns-in-IfElse t c v s =
@@ -53,4 +53,4 @@ returns-in-IfElse t c v s =
     let x = c.measure-in-IfElse.ensures O.x (standing-at c.three.ensures.first O.left) in
     let y = c.measure-in-IfElse-2.ensures O.y (standing-at c.three.ensures.second O.middle) in
     let z = c.measure-in-IfElse-3.ensures O.z (standing-at c.three.ensures.third O.right) in
-    measured-three R e v c.row-row.result c.of_three.result c.measure-in-IfElse.result c.measure-in-IfElse-2.result c.measure-in-IfElse-3.result O c.row-row.ensures x y z c.of_three.ensures
+    rw (c.of_three.ensures, x, y, z, c.row-row.ensures) (sym (ap (λ (w : Part). w.measure) O.is))

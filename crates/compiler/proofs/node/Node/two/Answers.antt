@@ -7,4 +7,4 @@ pub last-right-requires : goal.last-right-requires
 last-right-requires c = last-part c.args.self.rows.now c.args.self.end c.args.self.stands (omega arith)
 
 pub before-requires : goal.before-requires
-before-requires c = rw c.last-right.ensures.0 (rw c.last-right.ensures.1 (left-part c.args.self.rows.now c.args.self.end c.args.self.stands c.requires))
+before-requires c = rw c.last-right.ensures.rows (rw c.last-right.ensures.end (left-part c.args.self.rows.now c.args.self.end c.args.self.stands c.requires))
