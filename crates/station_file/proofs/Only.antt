@@ -1,6 +1,7 @@
 -- What is read was laid out so: a count, an instruction, a run of fields, and then the file.
 use Rattle.std.proofs.Common.{◌≡◌, ℕ, zero, suc, ◌+◌, ◌*◌, ◌^◌, ◌<◌, true, leb, List, [], ◌∷◌, ◌++◌, length, get_or, drop, Some, None, Ok, Err, Option, Result, sym, refl, ap, ◌∙◌, subst, mul-zero, mul-suc, arith}
 use Rattle.std.specs.List.{flat_map}
+use Rattle.std.proofs.lemmas.Bool.Decides.{nat_tests}
 use Rattle.std.proofs.lemmas.List.{append_assoc, append-nil, get_or-drop, drop-drop}
 use Rattle.std.proofs.lemmas.Bool.{cond_both, and_parts, leb-true}
 use Rattle.faults.specs.declared.fault.Fault.{Fault}
@@ -23,51 +24,35 @@ small-drop k bs s i = subst (λ (n : ℕ). n < 256) (sym (get_or-drop k bs i 0))
 
 -- the two parts of something read after something else
 then-parts : {X Y : Type 0} (r : Result X Fault) (next : X → Result Y Fault) (y : Y) → then r next ≡ Ok y → (x : X) × (r ≡ Ok x) × (next x ≡ Ok y)
-then-parts (Ok x) next y e = (x, refl, e)
-then-parts (Err f) next y e = cc e
+then-parts r next y e = grind arith
 
 or-wrong-parts : {X : Type 0} (at : ℕ) (o : Option X) (x : X) → or_wrong at o ≡ Ok x → o ≡ Some x
-or-wrong-parts at (Some y) x e = cc e
-or-wrong-parts at None x e = cc e
+or-wrong-parts at o x e = grind arith
 
 -- two bytes at the front
-two-front : (bs : List ℕ) (n : ℕ) → Small bs → two_of bs ≡ Some n → bs ≡ two_bytes n ++ drop 2 bs
+two-front : (bs : List ℕ) (n : ℕ) → Small bs → two_of bs ≡ Some n → (bs ≡ two_bytes n ++ drop 2 bs) × (n < 65536)
 two-front [] n s e = cc e
 two-front (a ∷ []) n s e = cc e
 two-front (a ∷ b ∷ bs) n s e =
-    let g : a + b * 256 ≡ n = cc e in
-    ap (λ t. t ++ bs) (sym (two-only a b (s 0) (s 1)) ∙ ap two_bytes g)
-
-two-bound : (bs : List ℕ) (n : ℕ) → Small bs → two_of bs ≡ Some n → n < 65536
-two-bound [] n s e = cc e
-two-bound (a ∷ []) n s e = cc e
-two-bound (a ∷ b ∷ bs) n s e =
-    let g : a + b * 256 ≡ n = cc e in
     let x = s 0 in
     let y = s 1 in
-    omega arith
+    (ap (λ t. t ++ bs) (sym (two-only a b x y) ∙ ap two_bytes (cc e)), grind arith)
 
 counted-parts : (low high : ℕ) (o : Option ℕ) (n : ℕ) → counted low high o ≡ Some n → (o ≡ Some n) × (within low high n ≡ true)
 counted-parts low high None n e = cc e
-counted-parts low high (Some m) n e =
-    cond_both (within low high m) (Some m) None (λ o. o ≡ Some n → (Some m ≡ Some n) × (within low high n ≡ true))
-    (λ t f. let g : m ≡ n = cc f in (f, subst (λ (k : ℕ). within low high k ≡ true) g t))
-    (λ t f. cc f) e
+counted-parts low high (Some m) n e = (grind (arith, nat_tests), grind (arith, nat_tests))
 
 count-only : (low high at n : ℕ) (bs : List ℕ) → Small bs → count_field low high at bs ≡ Ok n → (bs ≡ two_bytes n ++ drop 2 bs) × (within low high n ≡ true)
 count-only low high at n bs s e =
     let parts = counted-parts low high (two_of bs) n (or-wrong-parts at (counted low high (two_of bs)) n e) in
-    (two-front bs n s parts.0, parts.1)
+    ((two-front bs n s parts.0).0, parts.1)
 
 place-only : (at p : ℕ) (bs : List ℕ) → Small bs → place_field at bs ≡ Ok p → (bs ≡ two_bytes p ++ drop 2 bs) × RightPlace p
-place-only at p bs s e = let g = or-wrong-parts at (two_of bs) p e in (two-front bs p s g, two-bound bs p s g)
+place-only at p bs s e = two-front bs p s (or-wrong-parts at (two_of bs) p e)
 
 code-front : (bs : List ℕ) (c : ℕ) → code_byte bs ≡ Some c → bs ≡ c ∷ drop 1 bs
 code-front [] c e = cc e
-code-front (b ∷ bs) c e =
-    cond_both (leb b 13) (Some b) None (λ o. o ≡ Some c → b ∷ bs ≡ c ∷ bs)
-    (λ _ f. let g : b ≡ c = cc f in ap (λ k. k ∷ bs) g)
-    (λ _ f. cc f) e
+code-front (b ∷ bs) c e = grind (arith, nat_tests)
 
 operand-front : (points count c : ℕ) (bs : List ℕ) (i : Instruction) → Small bs → with_operand points count c (four_of bs) ≡ Some i → (w : ℕ) × (bs ≡ four_bytes w ++ drop 4 bs) × (Decodes points count c w i)
 operand-front points count c [] i s e = cc e
@@ -81,7 +66,7 @@ operand-front points count c (a ∷ b ∷ d ∷ f ∷ bs) i s e =
     let x2 = s 2 in
     let x3 = s 3 in
     let fits : w < 2 ^ 32 = omega arith in
-    (w, ap (λ t. t ++ bs) (sym (four-only a b d f (s 0) (s 1) (s 2) (s 3))), decoded-only points count c w fits i e)
+    (w, ap (λ t. t ++ bs) (sym (four-only a b d f (s 0) (s 1) (s 2) (s 3))), decoded-only points count w fits c i e)
 
 instruction-only : (points count at : ℕ) (i : Instruction) (bs : List ℕ) → Small bs → instruction_field points count at bs ≡ Ok i → (bs ≡ instruction_bytes i ++ drop 5 bs) × RightInstruction points count i
 instruction-only points count at i bs s e =
@@ -125,11 +110,7 @@ nothing-more end [] c f e = (refl, cc e)
 nothing-more end (x ∷ xs) c f e = cc e
 
 same_count : (n m : ℕ) → within n n m ≡ true → m ≡ n
-same_count n m h =
-    let parts = and_parts (leb n m) (leb m n) h in
-    let low = leb-true n m parts.0 in
-    let high = leb-true m n parts.1 in
-    omega arith
+same_count n m h = grind (arith, nat_tests)
 
 -- the bytes of a file, from those of its parts
 file-laid : (bs : List ℕ) (points n m : ℕ) (is : List Instruction) (ps : List ℕ) → length is ≡ n → length ps ≡ n → m ≡ n → bs ≡ two_bytes points ++ drop 2 bs → drop 2 bs ≡ two_bytes n ++ drop 2 (drop 2 bs) → drop 4 bs ≡ flat_map instruction_bytes is ++ drop (5 * n) (drop 4 bs) → drop (4 + 5 * n) bs ≡ two_bytes m ++ drop 2 (drop (4 + 5 * n) bs) → drop (6 + 5 * n) bs ≡ flat_map two_bytes ps ++ drop (2 * n) (drop (6 + 5 * n) bs) → drop (6 + 7 * n) bs ≡ [] → bs ≡ file_bytes (contents points is ps)

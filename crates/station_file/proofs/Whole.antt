@@ -1,6 +1,7 @@
 -- The writer's two sections, one after the other, are a file.
 use Rattle.std.proofs.Common.{◌≡◌, ℕ, ◌+◌, ◌*◌, ◌<◌, ◌≤◌, true, ◌&&◌, ltb, List, ◌++◌, length, get_or, take, drop, Some, None, Ok, sym, refl, ap, ◌∙◌, arith}
 use Rattle.std.proofs.lemmas.List.{append_assoc, length-append, length-take-le, take_at}
+use Rattle.std.proofs.lemmas.Bool.Decides.{nat_tests}
 use Rattle.std.proofs.lemmas.Bool.{cond-true, cond_both, and_parts, and_from, ltb-true, le-leb}
 use Rattle.instructions.specs.declared.instruction.Instruction.{Instruction}
 use Rattle.station_file.specs.declared.state.Begin.{Begin}
@@ -16,17 +17,14 @@ use Rattle.station_file.proofs.Sectioned.{length-code, length-places}
 use Rattle.station_file.proofs.Back.{file-back}
 
 -- where nothing is wrong with the instructions, the two counts are right
-counts-right : (points : ℕ) (code : List Instruction) → wrong_code points code ≡ None → (within 1 64 points && ltb 0 (length code)) ≡ true
-counts-right points code e =
-    cond_both (within 1 64 points && ltb 0 (length code)) (first_wrong points (length code) 0 code) (Some 0) (λ o. o ≡ None → (within 1 64 points && ltb 0 (length code)) ≡ true)
-    (λ t _. t) (λ _ f. cc f) e
+counts-right : (points : ℕ) (code : List Instruction) → wrong_code points code ≡ None → (within 1 64 points ≡ true) × (1 ≤ length code)
+counts-right points code e = (grind (arith, nat_tests), grind (arith, nat_tests))
 
 pub begins : (s : Begin) (points : ℕ) (code : List Instruction) (bs cs : List ℕ) → wrong_code points code ≡ None → length code ≤ 1024 → RightCode points code → cs ≡ put s.at (code_section points code) bs → s ≡ begun → Begins points code cs (record { at = s.at + (4 + 5 * length code); count = length code })
 begins s points code bs cs w few right p e =
     let sec = code_section points code in
-    let both = counts-right points code w in
-    let parts = and_parts (within 1 64 points) (ltb 0 (length code)) both in
-    let one = ltb-true 0 (length code) parts.1 in
+    let parts = counts-right points code w in
+    let one = parts.1 in
     let start : s.at ≡ 0 = ap (λ (b : Begin). b.at) e in
     let size : length sec ≡ s.at + (4 + 5 * length code) = omega (arith, length-code points code) in
     let front : cs ≡ sec ++ drop (length sec) bs = p ∙ ap (λ k. put k sec bs) start in
@@ -57,10 +55,9 @@ completes s ps bs cs many fit small p points code b =
 -- the same for whoever knows only what the definitions say: what the writer takes keeps the rules of a file
 pub taken-is-right : (points : ℕ) (code : List Instruction) (places : List ℕ) → Each Held code → Each RightPlace places → wrong_code points code ≡ None → wrong_places (length code) (length places) ≡ None → Right (contents points code places)
 taken-is-right points code places held small w many =
-    let both = counts-right points code w in
-    let parts = and_parts (within 1 64 points) (ltb 0 (length code)) both in
-    let one = ltb-true 0 (length code) parts.1 in
-    let judged = none-wrong points (length code) 0 code (omega arith) held (sym (cond-true _ (first_wrong points (length code) 0 code) (Some 0) both) ∙ w) in
+    let parts = counts-right points code w in
+    let one = parts.1 in
+    let judged = none-wrong points (length code) 0 code (omega arith) held (grind (arith, nat_tests)) in
     let few = judged.1 in
     record {
       points = parts.0;

@@ -1,5 +1,6 @@
 // Files written and read, damaged and cut.
 use arith::Comparison;
+use faults::FileCause::{NoFile, NoSpace};
 use faults::{Fault, FileCause, Layer};
 use instructions::Instruction;
 use station_file::{AfterInstructions, Begin, StationFile};
@@ -47,26 +48,28 @@ const FILE: [u8; 104] = [
     0, 0, 1, 0, 2, 0, 3, 0, 4, 0, 5, 0, 6, 0, 7, 0, 8, 0, 9, 0, 10, 0, 11, 0, 0x2c, 1, 0xff, 0xff,
 ];
 
-fn not_right(figure: u64) -> Fault {
-    Fault {
-        layer: Layer::File(FileCause::NoFile),
-        figure,
-    }
-}
-
-fn no_space(figure: u64) -> Fault {
-    Fault {
-        layer: Layer::File(FileCause::NoSpace),
-        figure,
-    }
+fn fault(cause: FileCause, figure: usize) -> Fault {
+    Fault::new(Layer::File(cause), figure)
 }
 
 // What the reader says of bytes: none where it takes them.
 fn refusal(bytes: &[u8]) -> Option<Fault> {
-    match StationFile::read(bytes) {
-        Ok(_) => None,
-        Err(fault) => Some(fault),
-    }
+    StationFile::read(bytes).err()
+}
+
+fn opened(
+    bytes: &mut [u8],
+    points: usize,
+    code: &[Instruction],
+) -> Result<AfterInstructions, Fault> {
+    Begin::new()
+        .instructions(bytes, points, code)
+        .map_err(|(_, fault)| fault)
+}
+
+fn finished(after: AfterInstructions, bytes: &mut [u8], places: &[u16]) -> Result<usize, Fault> {
+    let file = after.places(bytes, places).map_err(|(_, fault)| fault)?;
+    Ok(file.length)
 }
 
 fn written(
@@ -75,47 +78,26 @@ fn written(
     code: &[Instruction],
     places: &[u16],
 ) -> Result<usize, Fault> {
-    match Begin::new().instructions(bytes, points, code) {
-        Ok(after) => match after.places(bytes, places) {
-            Ok(file) => Ok(file.length),
-            Err((_, fault)) => Err(fault),
-        },
-        Err((_, fault)) => Err(fault),
-    }
+    let after = opened(bytes, points, code)?;
+    finished(after, bytes, places)
 }
 
 #[test]
 fn a_file_to_the_byte(rt: HostRuntime) -> Result<(), Fail> {
     let mut bytes = [0x5c; 106];
     assert_eq!(rt; written(&mut bytes, 3, &ALL, &PLACES)?, 104);
-    for (i, byte) in FILE.iter().enumerate() {
-        assert_eq!(rt; bytes[i], *byte);
-    }
-    assert_eq!(rt; bytes[104], 0x5c);
-    assert_eq!(rt; bytes[105], 0x5c);
+    let mut around = [0x5c; 106];
+    around[0..104].copy_from_slice(&FILE);
+    assert_eq!(rt; bytes, around);
     Ok(())
-}
-
-fn same_code(rt: &impl Abort, told: &[Instruction], want: &[Instruction]) {
-    assert!(rt; told.len() == want.len());
-    for i in 0..told.len() {
-        assert_eq!(rt; told[i], want[i]);
-    }
-}
-
-fn same_places(rt: &impl Abort, told: &[u16], want: &[u16]) {
-    assert!(rt; told.len() == want.len());
-    for i in 0..told.len() {
-        assert_eq!(rt; told[i], want[i]);
-    }
 }
 
 #[test]
 fn a_file_read_back(rt: HostRuntime) -> Result<(), Fail> {
     let file = StationFile::read(&FILE)?;
     assert_eq!(rt; file.points(), 3);
-    same_code(&rt, file.instructions(), &ALL);
-    same_places(&rt, file.places(), &PLACES);
+    assert_eq!(rt; file.instructions(), &ALL[..]);
+    assert_eq!(rt; file.places(), &PLACES[..]);
     Ok(())
 }
 
@@ -136,7 +118,7 @@ fn cut_at_every_length(rt: HostRuntime) {
     for length in 0..104 {
         assert_eq!(rt;
             refusal(&FILE[0..length]),
-            Some(not_right(cut_field(length) as u64))
+            Some(fault(NoFile, cut_field(length)))
         );
     }
     assert_eq!(rt; refusal(&FILE), None);
@@ -146,11 +128,11 @@ fn cut_at_every_length(rt: HostRuntime) {
 fn one_byte_more(rt: HostRuntime) {
     let mut bytes = [0; 105];
     bytes[0..104].copy_from_slice(&FILE);
-    assert_eq!(rt; refusal(&bytes), Some(not_right(104)));
+    assert_eq!(rt; refusal(&bytes), Some(fault(NoFile, 104)));
 }
 
 // A byte, the value that it is given, and the field that is then wrong.
-const DAMAGES: [(usize, u8, u64); 30] = [
+const DAMAGES: [(usize, u8, usize); 30] = [
     (0, 0, 0),
     (0, 65, 0),
     (1, 1, 0),
@@ -189,7 +171,7 @@ fn each_field_damaged(rt: HostRuntime) {
         let mut bytes = FILE;
         assert!(rt; at < 104);
         bytes[at] = value;
-        assert_eq!(rt; refusal(&bytes), Some(not_right(field)));
+        assert_eq!(rt; refusal(&bytes), Some(fault(NoFile, field)));
     }
 }
 
@@ -200,7 +182,7 @@ fn one_instruction_and_the_most(rt: HostRuntime) -> Result<(), Fail> {
     assert_eq!(rt; refusal(&small), None);
     assert_eq!(rt;
         written(&mut small, 1, &[Instruction::Jump(2)], &[9]),
-        Err(not_right(0))
+        Err(fault(NoFile, 0))
     );
     let code = [Instruction::Inv; 1024];
     let places = [7; 1024];
@@ -213,11 +195,20 @@ fn one_instruction_and_the_most(rt: HostRuntime) -> Result<(), Fail> {
 #[test]
 fn a_space_one_byte_too_small(rt: HostRuntime) {
     let mut bytes = [0; 103];
-    assert_eq!(rt; written(&mut bytes, 3, &ALL, &PLACES), Err(no_space(30)));
+    assert_eq!(rt;
+        written(&mut bytes, 3, &ALL, &PLACES),
+        Err(fault(NoSpace, 30))
+    );
     let mut bytes = [0; 73];
-    assert_eq!(rt; written(&mut bytes, 3, &ALL, &PLACES), Err(no_space(74)));
+    assert_eq!(rt;
+        written(&mut bytes, 3, &ALL, &PLACES),
+        Err(fault(NoSpace, 74))
+    );
     // too large is said first
-    assert_eq!(rt; written(&mut bytes, 0, &ALL, &PLACES), Err(no_space(74)));
+    assert_eq!(rt;
+        written(&mut bytes, 0, &ALL, &PLACES),
+        Err(fault(NoSpace, 74))
+    );
 }
 
 #[test]
@@ -227,31 +218,31 @@ fn too_many_instructions(rt: HostRuntime) {
     let places = [7; 1025];
     assert_eq!(rt;
         written(&mut bytes, 1, &code, &places),
-        Err(not_right(1024))
+        Err(fault(NoFile, 1024))
     );
 }
 
 #[test]
 fn the_smallest_index_that_is_wrong(rt: HostRuntime) {
     let mut bytes = [0x5c; 104];
-    assert_eq!(rt; written(&mut bytes, 0, &ALL, &PLACES), Err(not_right(0)));
-    assert_eq!(rt; written(&mut bytes, 65, &ALL, &PLACES), Err(not_right(0)));
-    assert_eq!(rt; written(&mut bytes, 3, &[], &[]), Err(not_right(0)));
-    assert_eq!(rt; written(&mut bytes, 2, &ALL, &PLACES), Err(not_right(1)));
+    assert_eq!(rt;
+        written(&mut bytes, 0, &ALL, &PLACES),
+        Err(fault(NoFile, 0))
+    );
+    assert_eq!(rt;
+        written(&mut bytes, 65, &ALL, &PLACES),
+        Err(fault(NoFile, 0))
+    );
+    assert_eq!(rt; written(&mut bytes, 3, &[], &[]), Err(fault(NoFile, 0)));
+    assert_eq!(rt;
+        written(&mut bytes, 2, &ALL, &PLACES),
+        Err(fault(NoFile, 1))
+    );
     assert_eq!(rt;
         written(&mut bytes, 3, &ALL[0..13], &PLACES),
-        Err(not_right(12))
+        Err(fault(NoFile, 12))
     );
-    for byte in bytes {
-        assert_eq!(rt; byte, 0x5c);
-    }
-}
-
-fn opened(bytes: &mut [u8]) -> Result<AfterInstructions, Fault> {
-    match Begin::new().instructions(bytes, 3, &ALL) {
-        Ok(after) => Ok(after),
-        Err((_, fault)) => Err(fault),
-    }
+    assert_eq!(rt; bytes, [0x5c; 104]);
 }
 
 // Places that are refused, and the state that is handed back.
@@ -271,23 +262,14 @@ fn refused(
     }
 }
 
-fn finished(after: AfterInstructions, bytes: &mut [u8]) -> Result<usize, Fault> {
-    match after.places(bytes, &PLACES) {
-        Ok(file) => Ok(file.length),
-        Err((_, fault)) => Err(fault),
-    }
-}
-
 #[test]
 fn a_refused_section_keeps_its_state(rt: HostRuntime) -> Result<(), Fail> {
     let mut bytes = [0; 104];
-    let after = opened(&mut bytes)?;
-    let after = refused(&rt, after, &mut bytes, &[], not_right(0))?;
-    let after = refused(&rt, after, &mut bytes, &[1; 13], not_right(13))?;
-    let after = refused(&rt, after, &mut bytes, &[1; 15], no_space(32))?;
-    assert_eq!(rt; finished(after, &mut bytes)?, 104);
-    for (i, byte) in FILE.iter().enumerate() {
-        assert_eq!(rt; bytes[i], *byte);
-    }
+    let after = opened(&mut bytes, 3, &ALL)?;
+    let after = refused(&rt, after, &mut bytes, &[], fault(NoFile, 0))?;
+    let after = refused(&rt, after, &mut bytes, &[1; 13], fault(NoFile, 13))?;
+    let after = refused(&rt, after, &mut bytes, &[1; 15], fault(NoSpace, 32))?;
+    assert_eq!(rt; finished(after, &mut bytes, &PLACES)?, 104);
+    assert_eq!(rt; bytes, FILE);
     Ok(())
 }

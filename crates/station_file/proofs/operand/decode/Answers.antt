@@ -5,4 +5,4 @@ use Rattle.station_file.proofs.operand.decode.Goals as goal
 pub returns : goal.returns
 returns c =
     let e : c.filter.result ≡ if_allowed c.args.counts.points c.args.counts.instructions c.instruction_of.result = search rules in
-    e ∙ ap (if_allowed c.args.counts.points c.args.counts.instructions) c.instruction_of.ensures ∙ decoded-allowed c.args.counts.points c.args.counts.instructions c.args.operand c.args.counts.few_points c.args.counts.few c.args.code
+    e ∙ ap (if_allowed c.args.counts.points c.args.counts.instructions) c.instruction_of.ensures ∙ decoded-allowed c.args.counts.points c.args.counts.instructions c.args.counts.few_points c.args.counts.few c.args.code c.args.operand
