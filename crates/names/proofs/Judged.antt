@@ -17,10 +17,6 @@ pub record Judged (text : List ℕ) (start count : ℕ) (coming : List (List ℕ
   pub counted : count ≡ length seen
   pub answer : first_bad seen start coming (rest_of text) ≡ bad_line_of text
 
-pub begins : (text : List ℕ) → (length text ≡ 0 → ⊥) → Judged text 0 0 (lines_of text)
-begins [] n = absurd (n refl)
-begins (b ∷ bs) n = record { seen = []; whole = refl; begun = refl; counted = refl; answer = refl }
-
 module _ (text : List ℕ) (start count : ℕ) (coming : List (List ℕ)) (j : Judged text start count coming) where
   spelled : text ≡ written j.seen ++ (written coming ++ rest_of text)
   spelled =
@@ -37,17 +33,17 @@ module _ (text : List ℕ) (start count : ℕ) (coming : List (List ℕ)) (j : J
       ∙ ap lines_of (take_at (written j.seen) (written coming ++ rest_of text) start (sym j.begun))
       ∙ lines-written j.seen (front-all Plain j.seen coming (subst (AllByRecursion Plain) j.whole (lines-plain text))).0
 
--- the next line is judged, and the complaint is asked for as the code does
-module _ (text : List ℕ) (start count : ℕ) (coming : List (List ℕ)) (line : List ℕ) (later : List (List ℕ)) (judged : Judged text start count coming) (e : coming ≡ line ∷ later) where
+-- the next line is judged: n is its number, and the complaint is asked for as the code does
+module _ (text : List ℕ) (start count : ℕ) (coming : List (List ℕ)) (line : List ℕ) (later : List (List ℕ)) (n : ℕ) (judged : Judged text start count coming) (e : coming ≡ line ∷ later) (at : n ≡ count) where
   j : Judged text start count (line ∷ later)
   j = subst (Judged text start count) e judged
 
-  asked : complaint_of count (lines_of (take start text)) line ≡ complaint_of (length j.seen) j.seen line
+  asked : complaint_of n (lines_of (take start text)) line ≡ complaint_of (length j.seen) j.seen line
   asked =
-      ap (λ (n : ℕ). complaint_of n (lines_of (take start text)) line) j.counted
+      ap (λ (k : ℕ). complaint_of k (lines_of (take start text)) line) (at ∙ j.counted)
       ∙ ap (λ (ls : List (List ℕ)). complaint_of (length j.seen) ls line) (seen-is text start count (line ∷ later) j)
 
-  answered : (o : Option Complaint) → o ≡ complaint_of count (lines_of (take start text)) line → bad_or start (suc (length j.seen)) o (first_bad (j.seen ++ line ∷ []) (suc (start + length line)) later (rest_of text)) ≡ bad_line_of text
+  answered : (o : Option Complaint) → o ≡ complaint_of n (lines_of (take start text)) line → bad_or start (suc (length j.seen)) o (first_bad (j.seen ++ line ∷ []) (suc (start + length line)) later (rest_of text)) ≡ bad_line_of text
   answered o is =
       ap (λ (o : Option Complaint). bad_or start (suc (length j.seen)) o (first_bad (j.seen ++ line ∷ []) (suc (start + length line)) later (rest_of text))) (is ∙ asked)
       ∙ j.answer
@@ -56,18 +52,18 @@ module _ (text : List ℕ) (start count : ℕ) (coming : List (List ℕ)) (line 
   fits =
       omega (arith, length-spelled text start count (line ∷ later) j, length-append line (10 ∷ written later))
 
-  pub bad : (c : Complaint) → Some c ≡ complaint_of count (lines_of (take start text)) line → Some (record { start = start; line = count + 1; complaint = c }) ≡ bad_line_of text
-  bad c is = let n : count + 1 ≡ suc (length j.seen) = omega (arith, j.counted) in rw n (answered (Some c) is)
+  pub bad : (c : Complaint) → Some c ≡ complaint_of n (lines_of (take start text)) line → Some (record { start = start; line = n + 1; complaint = c }) ≡ bad_line_of text
+  bad c is = let k : n + 1 ≡ suc (length j.seen) = omega (arith, at, j.counted) in rw k (answered (Some c) is)
 
-  pub next : None ≡ complaint_of count (lines_of (take start text)) line → Judged text (start + (length line + 1)) (count + 1) later
-  next is =
-      let n : start + (length line + 1) ≡ suc (start + length line) = omega arith in
+  pub next : (m : ℕ) → m ≡ count + 1 → None ≡ complaint_of n (lines_of (take start text)) line → Judged text (start + (length line + 1)) m later
+  next m up is =
+      let k : start + (length line + 1) ≡ suc (start + length line) = omega arith in
       record {
         seen = j.seen ++ line ∷ [];
         whole = j.whole ∙ sym (append_assoc j.seen (line ∷ []) later);
         begun = omega (arith, j.begun, length-written-push j.seen line);
-        counted = omega (arith, j.counted, length_push j.seen line);
-        answer = rw n (answered None is);
+        counted = omega (arith, up, j.counted, length_push j.seen line);
+        answer = rw k (answered None is);
       }
 
 cut_short : (rest : List ℕ) (seen : List (List ℕ)) (start line : ℕ) → 0 < length rest → line ≡ suc (length seen) → first_bad seen start [] rest ≡ Some (record { start = start; line = line; complaint = NoNewline })

@@ -11,18 +11,6 @@ use Rattle.names.specs.Names.{written}
 abbrev pub Plain : List ℕ → Type 0
 Plain bs = AllByRecursion (λ b. b ≡ 10 → ⊥) bs
 
-pub lines-append : (l xs ys : List ℕ) → lines_from l (xs ++ ys) ≡ lines_from l xs ++ lines_from (rest_from l xs) ys
-lines-append l [] ys = refl
-lines-append l (b ∷ xs) ys =
-    elim (eqb b 10) as (λ (t : Bool). cond t (l ∷ lines_from [] (xs ++ ys)) (lines_from (l ++ b ∷ []) (xs ++ ys)) ≡ cond t (l ∷ lines_from [] xs) (lines_from (l ++ b ∷ []) xs) ++ lines_from (cond t (rest_from [] xs) (rest_from (l ++ b ∷ []) xs)) ys)
-    [ true ↦ ap (λ (ls : List (List ℕ)). l ∷ ls) (lines-append [] xs ys) | false ↦ lines-append (l ++ b ∷ []) xs ys ]
-
-pub rest-append : (l xs ys : List ℕ) → rest_from l (xs ++ ys) ≡ rest_from (rest_from l xs) ys
-rest-append l [] ys = refl
-rest-append l (b ∷ xs) ys =
-    elim (eqb b 10) as (λ (t : Bool). cond t (rest_from [] (xs ++ ys)) (rest_from (l ++ b ∷ []) (xs ++ ys)) ≡ rest_from (cond t (rest_from [] xs) (rest_from (l ++ b ∷ []) xs)) ys)
-    [ true ↦ rest-append [] xs ys | false ↦ rest-append (l ++ b ∷ []) xs ys ]
-
 parts_from : (l bs : List ℕ) → l ++ bs ≡ written (lines_from l bs) ++ rest_from l bs
 parts_from l [] = append-nil l
 parts_from l (b ∷ bs) =
