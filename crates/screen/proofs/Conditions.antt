@@ -34,11 +34,11 @@ kind_of (compare q k l r) = Compare
 kind_of (negate q d) = Not
 kind_of (connect q j d e) = connective_kind j
 
-top-kind : (R : List Row) (end count : ℕ) (t : Condition) → ConditionAt R end count t → (get_or R (end - 1) blank).kind ≡ kind_of t
-top-kind R end count (truth q b) at = kind-is (row_before R end (row Truth (bit b) 1 q) at.stands)
-top-kind R end count (compare q k l r) at = kind-is (compare-sides at).pair.own
-top-kind R end count (negate q d) at = kind-is (one_in sort.Condition R end d _ at.stands).own
-top-kind R end count (connect q j d e) at = kind-is (pair sort.Condition sort.Condition R end d e _ at.stands).own
+top-kind : {R : List Row} {end count : ℕ} (t : Condition) → ConditionAt R end count t → (get_or R (end - 1) blank).kind ≡ kind_of t
+top-kind {R} {end} (truth q b) at = kind-is (row_before R end (row Truth (bit b) 1 q) at.stands)
+top-kind {R} {end} (compare q k l r) at = kind-is (compare-sides at).pair.own
+top-kind {R} {end} (negate q d) at = kind-is (one_in sort.Condition R end d _ at.stands).own
+top-kind {R} {end} (connect q j d e) at = kind-is (pair sort.Condition sort.Condition R end d e _ at.stands).own
 
 pub condition-end : {R : List Row} {end count : ℕ} {t : Condition} → ConditionAt R end count t → (1 ≤ end) × (end ≤ length R)
 condition-end {R} {end} {count} {t} at = end-in sort.Condition R end t at.stands
@@ -69,7 +69,7 @@ truthful-at R end count (connect q both d e) at k = absurd cc
 truthful-at R end count (connect q either d e) at k = absurd cc
 
 pub truthful : {R : List Row} {end count : ℕ} {t : Condition} → ConditionAt R end count t → (get_or R (end - 1) blank).kind ≡ Truth → Truthful R end t
-truthful {R} {end} {count} {t} at k = truthful-at R end count t at (sym (top-kind R end count t at) ∙ k)
+truthful {R} {end} {count} {t} at k = truthful-at R end count t at (sym (top-kind t at) ∙ k)
 
 comparing-at : (t : Condition) → kind_of t ≡ Compare → (P : Condition → Type 0) → ((q : ℕ) (k : Comparison) (l r : Sum) → P (compare q k l r)) → P t
 comparing-at (truth q b) k P f = absurd cc
@@ -80,7 +80,7 @@ comparing-at (connect q either d e) k P f = absurd cc
 
 -- what holds of each comparison holds of the condition
 pub comparing : {R : List Row} {end count : ℕ} {t : Condition} → ConditionAt R end count t → (get_or R (end - 1) blank).kind ≡ Compare → (P : Condition → Type 0) → ((q : ℕ) (k : Comparison) (l r : Sum) → P (compare q k l r)) → P t
-comparing {R} {end} {count} {t} at k = comparing-at t (sym (top-kind R end count t at) ∙ k)
+comparing {R} {end} {count} {t} at k = comparing-at t (sym (top-kind t at) ∙ k)
 
 pub record Negating (R : List Row) (end count : ℕ) (t : Condition) : Type 0 where
   pub place : ℕ
@@ -107,7 +107,7 @@ negating-at R end count (connect q both d e) at k = absurd cc
 negating-at R end count (connect q either d e) at k = absurd cc
 
 pub negating : {R : List Row} {end count : ℕ} {t : Condition} → ConditionAt R end count t → (get_or R (end - 1) blank).kind ≡ Not → Negating R end count t
-negating {R} {end} {count} {t} at k = negating-at R end count t at (sym (top-kind R end count t at) ∙ k)
+negating {R} {end} {count} {t} at k = negating-at R end count t at (sym (top-kind t at) ∙ k)
 
 pub record Connecting (R : List Row) (end count : ℕ) (t : Condition) : Type 0 where
   pub place : ℕ
@@ -124,11 +124,11 @@ connected-is : (j : Connective) (x y : Bool) → connected_at (connective_kind j
 connected-is both x y = refl
 connected-is either x y = refl
 
-connecting-at : (R : List Row) (end count : ℕ) (t : Condition) → ConditionAt R end count t → ((get_or R (end - 1) blank).kind ≡ Truth → ⊥) → ((get_or R (end - 1) blank).kind ≡ Compare → ⊥) → ((get_or R (end - 1) blank).kind ≡ Not → ⊥) → Connecting R end count t
-connecting-at R end count (truth q b) at m n o = absurd (m (top-kind R end count (truth q b) at))
-connecting-at R end count (compare q k l r) at m n o = absurd (n (top-kind R end count (compare q k l r) at))
-connecting-at R end count (negate q d) at m n o = absurd (o (top-kind R end count (negate q d) at))
-connecting-at R end count (connect q j l r) at m n o =
+pub connecting : {R : List Row} {end count : ℕ} {t : Condition} → ConditionAt R end count t → ((get_or R (end - 1) blank).kind ≡ Truth → ⊥) → ((get_or R (end - 1) blank).kind ≡ Compare → ⊥) → ((get_or R (end - 1) blank).kind ≡ Not → ⊥) → Connecting R end count t
+connecting {t = truth q b} at m n o = absurd (m (top-kind (truth q b) at))
+connecting {t = compare q k l r} at m n o = absurd (n (top-kind (compare q k l r) at))
+connecting {t = negate q d} at m n o = absurd (o (top-kind (negate q d) at))
+connecting {R} {end} {t = connect q j l r} at m n o =
     let P = pair sort.Condition sort.Condition R end l r _ at.stands in
     record {
       place = q;
@@ -141,6 +141,3 @@ connecting-at R end count (connect q j l r) at m n o =
       right = record { stands = P.right; over = at.over.1 };
       joined = λ x y. ap (λ (k : Kind). connected_at k x y) (kind-is P.own) ∙ connected-is j x y;
     }
-
-pub connecting : {R : List Row} {end count : ℕ} {t : Condition} → ConditionAt R end count t → ((get_or R (end - 1) blank).kind ≡ Truth → ⊥) → ((get_or R (end - 1) blank).kind ≡ Compare → ⊥) → ((get_or R (end - 1) blank).kind ≡ Not → ⊥) → Connecting R end count t
-connecting {R} {end} {count} {t} at m n o = connecting-at R end count t at m n o

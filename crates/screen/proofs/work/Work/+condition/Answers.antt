@@ -9,7 +9,7 @@ use Rattle.screen.specs.Works.{done, after, connected, condition_work}
 use Rattle.screen.specs.Values.{out_of}
 use Rattle.screen.specs.Parts.{ConditionAt}
 use Rattle.screen.proofs.Costs.{then-done, then-stop, two-done, two-stop, spent-condition}
-use Rattle.screen.proofs.Parting.{moved}
+use Rattle.screen.proofs.Parting.{condition-at}
 use Rattle.screen.proofs.Conditions.{condition-end, condition-size, truthful, comparing, negating, connecting}
 use Rattle.screen.proofs.work.Work.+condition.Goals as goal
 
@@ -63,7 +63,7 @@ start_of-requires t c =
 pub condition-requires-in_default : goal.condition-requires-in_default
 condition-requires-in_default t c =
     let C = connecting c.requires.tree.1 c.in_default.not-Truth c.in_default.not-Compare c.in_default.not-Not in
-    let la = moved (λ n. ConditionAt c.args.self.rows.now n (length c.args.points.now) C.l) c.start_of.ensures C.left in
+    let la = condition-at c.start_of.ensures C.left in
     let n = condition-size la in
     let own = ap (λ (x : Row). x.size) C.pair.own in
     let small = c.requires.small in
@@ -73,7 +73,7 @@ pub returns-in_err-left-in_default : goal.returns-in_err-left-in_default
 returns-in_err-left-in_default t c t' at =
     let p = c.args.points.now in
     let C = connecting at c.in_default.not-Truth c.in_default.not-Compare c.in_default.not-Not in
-    let la = moved (λ n. ConditionAt c.args.self.rows.now n (length p) C.l) c.start_of.ensures C.left in
+    let la = condition-at c.start_of.ensures C.left in
     let E = err_from_is_err_and c.from_residual-in_err-left-in_default.result c.from_residual-in_err-left-in_default.ensures.1 in
     rw (E.1, E.2, C.is) (then-stop c.args.spent _ _ _ (condition_work C.l p) _ (c.in_err-left-in_default.ensures C.l la))
 
@@ -84,7 +84,7 @@ pub condition-requires-in_default-2 : goal.condition-requires-in_default-2
 condition-requires-in_default-2 t c =
     let p = c.args.points.now in
     let C = connecting c.requires.tree.1 c.in_default.not-Truth c.in_default.not-Compare c.in_default.not-Not in
-    let la = moved (λ n. ConditionAt c.args.self.rows.now n (length p) C.l) c.start_of.ensures C.left in
+    let la = condition-at c.start_of.ensures C.left in
     let before = spent-condition C.l p c.args.spent c.in_ok-left-in_default.before c.in_ok-left-in_default.left (c.in_ok-left-in_default.ensures C.l la) in
     let n = C.pair.right-size in
     let own = ap (λ (x : Row). x.size) C.pair.own in
@@ -95,7 +95,7 @@ pub returns-in_err-right-in_default : goal.returns-in_err-right-in_default
 returns-in_err-right-in_default t c t' at =
     let p = c.args.points.now in
     let C = connecting at c.in_default.not-Truth c.in_default.not-Compare c.in_default.not-Not in
-    let la = moved (λ n. ConditionAt c.args.self.rows.now n (length p) C.l) c.start_of.ensures C.left in
+    let la = condition-at c.start_of.ensures C.left in
     let E = err_from_is_err_and c.from_residual-in_err-right-in_default.result c.from_residual-in_err-right-in_default.ensures.1 in
     rw (E.1, E.2, C.is) (two-stop c.args.spent c.in_ok-left-in_default.before _ c.in_ok-left-in_default.left _ _ (condition_work C.l p) (condition_work C.r p) (λ x y. done 1 (connected C.j x y)) (c.in_ok-left-in_default.ensures C.l la) (c.in_err-right-in_default.ensures C.r C.right))
 
@@ -103,7 +103,7 @@ pub overflow_add-result-in_default : goal.overflow_add-result-in_default
 overflow_add-result-in_default t c =
     let p = c.args.points.now in
     let C = connecting c.requires.tree.1 c.in_default.not-Truth c.in_default.not-Compare c.in_default.not-Not in
-    let la = moved (λ n. ConditionAt c.args.self.rows.now n (length p) C.l) c.start_of.ensures C.left in
+    let la = condition-at c.start_of.ensures C.left in
     let before = spent-condition C.l p c.args.spent c.in_ok-left-in_default.before c.in_ok-left-in_default.left (c.in_ok-left-in_default.ensures C.l la) in
     let both = spent-condition C.r p c.in_ok-left-in_default.before c.in_ok-right-in_default.both c.in_ok-right-in_default.right (c.in_ok-right-in_default.ensures C.r C.right) in
     let own = ap (λ (x : Row). x.size) C.pair.own in
@@ -132,5 +132,5 @@ pub returns-in_ok-right-in_default : goal.returns-in_ok-right-in_default
 returns-in_ok-right-in_default t c t' at =
     let p = c.args.points.now in
     let C = connecting at c.in_default.not-Truth c.in_default.not-Compare c.in_default.not-Not in
-    let la = moved (λ n. ConditionAt c.args.self.rows.now n (length p) C.l) c.start_of.ensures C.left in
+    let la = condition-at c.start_of.ensures C.left in
     rw (C.is, c.connect.ensures, C.joined c.in_ok-left-in_default.left c.in_ok-right-in_default.right) (two-done c.args.spent c.in_ok-left-in_default.before c.in_ok-right-in_default.both c.in_ok-left-in_default.left c.in_ok-right-in_default.right (condition_work C.l p) (condition_work C.r p) (λ x y. done 1 (connected C.j x y)) (c.in_ok-left-in_default.ensures C.l la) (c.in_ok-right-in_default.ensures C.r C.right))
