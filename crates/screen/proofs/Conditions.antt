@@ -16,7 +16,7 @@ use Rattle.screen.specs.Values.{connected_at}
 use Rattle.screen.specs.Parts.{ConditionAt}
 use Rattle.screen.proofs.Parting.{size_in_lem, end-in, one_in, Pair, pair, Sides, sides, row_before, kind-is}
 
-pub compare-sides : {R : List Row} {end count q : ℕ} {k : Comparison} {l r : Sum} → ConditionAt R end count (compare q k l r) → Sides R end count l r (row Compare (pos (comparison_number k)) (suc (sum_size l + sum_size r)) q)
+compare-sides : {R : List Row} {end count q : ℕ} {k : Comparison} {l r : Sum} → ConditionAt R end count (compare q k l r) → Sides R end count l r (row Compare (pos (comparison_number k)) (suc (sum_size l + sum_size r)) q)
 compare-sides {R} {end} {count} {q} {k} {l} {r} at = sides R end count l r _ at.stands at.over.0 at.over.1
 
 -- a comparison's row names it
@@ -71,16 +71,34 @@ truthful-at R end count (connect q either d e) at k = absurd cc
 pub truthful : {R : List Row} {end count : ℕ} {t : Condition} → ConditionAt R end count t → (get_or R (end - 1) blank).kind ≡ Truth → Truthful R end t
 truthful {R} {end} {count} {t} at k = truthful-at R end count t at (sym (top-kind t at) ∙ k)
 
-comparing-at : (t : Condition) → kind_of t ≡ Compare → (P : Condition → Type 0) → ((q : ℕ) (k : Comparison) (l r : Sum) → P (compare q k l r)) → P t
-comparing-at (truth q b) k P f = absurd cc
-comparing-at (compare q r l e) k P f = f q r l e
-comparing-at (negate q d) k P f = absurd cc
-comparing-at (connect q both d e) k P f = absurd cc
-comparing-at (connect q either d e) k P f = absurd cc
+pub record Comparing (R : List Row) (end count : ℕ) (t : Condition) : Type 0 where
+  pub place : ℕ
+  pub k : Comparison
+  pub l : Sum
+  pub r : Sum
+  pub is : t ≡ compare place k l r
+  pub sides : Sides R end count l r (row Compare (pos (comparison_number k)) (suc (sum_size l + sum_size r)) place)
+  pub names : comparison_in (get_or R (end - 1) blank).value ≡ Some k
 
--- what holds of each comparison holds of the condition
-pub comparing : {R : List Row} {end count : ℕ} {t : Condition} → ConditionAt R end count t → (get_or R (end - 1) blank).kind ≡ Compare → (P : Condition → Type 0) → ((q : ℕ) (k : Comparison) (l r : Sum) → P (compare q k l r)) → P t
-comparing {R} {end} {count} {t} at k = comparing-at t (sym (top-kind t at) ∙ k)
+comparing-at : (R : List Row) (end count : ℕ) (t : Condition) → ConditionAt R end count t → kind_of t ≡ Compare → Comparing R end count t
+comparing-at R end count (truth q b) at k = absurd cc
+comparing-at R end count (compare q k l r) at e =
+    let S = compare-sides at in
+    record {
+      place = q;
+      k = k;
+      l = l;
+      r = r;
+      is = refl;
+      sides = S;
+      names = ap (λ (x : Row). comparison_in x.value) S.pair.own ∙ names k;
+    }
+comparing-at R end count (negate q d) at k = absurd cc
+comparing-at R end count (connect q both d e) at k = absurd cc
+comparing-at R end count (connect q either d e) at k = absurd cc
+
+pub comparing : {R : List Row} {end count : ℕ} {t : Condition} → ConditionAt R end count t → (get_or R (end - 1) blank).kind ≡ Compare → Comparing R end count t
+comparing {R} {end} {count} {t} at k = comparing-at R end count t at (sym (top-kind t at) ∙ k)
 
 pub record Negating (R : List Row) (end count : ℕ) (t : Condition) : Type 0 where
   pub place : ℕ
