@@ -39,14 +39,21 @@ when-parts {R} {end} {count} {q} {h} {b} at = testing R end count h b _ refl at.
 pub while-parts : {R : List Row} {end count q : ℕ} {h : Condition} {b : Sheet} → SheetAt R end count (only (while q h b)) → Testing R end count h b
 while-parts {R} {end} {count} {q} {h} {b} at = testing R end count h b _ refl at.stands at.over.0 at.over.1
 
+-- a first part, which ends at s, under a row of size m
+pub record Lead (R : List Row) (s count m : ℕ) (b : Sheet) : Type 0 where
+  pub part : SheetAt R s count b
+  pub falls : (get_or R (s - 1) blank).size < m
+
+pub lead-at : {R : List Row} {m n count k : ℕ} {b : Sheet} → n ≡ m → Lead R m count k b → Lead R n count k b
+lead-at {R} {m} {n} {count} {k} {b} e l = subst (λ (s : ℕ). Lead R s count k b) (sym e) l
+
 -- a command and the sheet after it
 pub record Joining (R : List Row) (end count : ℕ) (k : Command) (b : Sheet) : Type 0 where
   pub top : Row
   pub pair : Pair sort.Sheet sort.Sheet R end (only k) b top
-  pub first : SheetAt R (end - 1 - (get_or R (end - 1 - 1) blank).size) count (only k)
+  pub first : Lead R (end - 1 - (get_or R (end - 1 - 1) blank).size) count (get_or R (end - 1) blank).size (only k)
   pub rest : SheetAt R (end - 1) count b
-  pub first-falls : (get_or R (end - 1 - (get_or R (end - 1 - 1) blank).size - 1) blank).size < (get_or R (end - 1) blank).size
-  pub rest-falls : (get_or R (end - 1 - 1) blank).size < (get_or R (end - 1) blank).size
+  pub falls : (get_or R (end - 1 - 1) blank).size < (get_or R (end - 1) blank).size
 
 pub joint-parts : {R : List Row} {end count q : ℕ} {k : Command} {b : Sheet} → SheetAt R end count (joint q k b) → Joining R end count k b
 joint-parts {R} {end} {count} {q} {k} {b} at =
@@ -57,10 +64,9 @@ joint-parts {R} {end} {count} {q} {k} {b} at =
     record {
       top = _;
       pair = P;
-      first = record { stands = P.left; over = at.over.0 };
+      first = record { part = record { stands = P.left; over = at.over.0 }; falls = omega arith };
       rest = record { stands = P.right; over = at.over.1 };
-      first-falls = omega arith;
-      rest-falls = omega arith;
+      falls = omega arith;
     }
 
 -- the first of two bodies, which ends at s, and the condition before it
@@ -68,8 +74,10 @@ pub record First (R : List Row) (s count m : ℕ) (h : Condition) (b : Sheet) : 
   pub some : 1 ≤ s
   pub room : (get_or R (s - 1) blank).size ≤ s
   pub test : ConditionAt R (s - (get_or R (s - 1) blank).size) count h
-  pub body : SheetAt R s count b
-  pub falls : (get_or R (s - 1) blank).size < m
+  pub body : Lead R s count m b
+
+pub first-at : {R : List Row} {m n count k : ℕ} {h : Condition} {b : Sheet} → n ≡ m → First R m count k h b → First R n count k h b
+first-at {R} {m} {n} {count} {k} {h} {b} e f = subst (λ (s : ℕ). First R s count k h b) (sym e) f
 
 -- a condition and two bodies
 pub record Choosing (R : List Row) (end count : ℕ) (h : Condition) (b d : Sheet) : Type 0 where
@@ -101,8 +109,7 @@ choosing R end count h b d x n before oh ob od =
             some = omega arith;
             room = omega arith;
             test = record { stands = left-before R end (condition_rows h) (sheet_rows b ++ (sheet_rows d ++ x ∷ [])) before _ (omega arith); over = oh };
-            body = record { stands = P.left; over = ob };
-            falls = omega arith;
+            body = record { part = record { stands = P.left; over = ob }; falls = omega arith };
           };
       second = record { stands = P.right; over = od };
       falls = omega arith;

@@ -16,7 +16,7 @@ use Rattle.screen.specs.Values.{connected_at}
 use Rattle.screen.specs.Parts.{ConditionAt}
 use Rattle.screen.proofs.Parting.{size_in_lem, end-in, one_in, Pair, pair, Sides, sides, row_before, kind-is}
 
-pub compare-sides : {R : List Row} {end count q : ℕ} {k : Comparison} {l r : Sum} → ConditionAt R end count (compare q k l r) → Sides R end count l r (row Compare (pos (comparison_number k)) (suc (sum_size l + sum_size r)) q)
+compare-sides : {R : List Row} {end count q : ℕ} {k : Comparison} {l r : Sum} → ConditionAt R end count (compare q k l r) → Sides R end count l r (row Compare (pos (comparison_number k)) (suc (sum_size l + sum_size r)) q)
 compare-sides {R} {end} {count} {q} {k} {l} {r} at = sides R end count l r _ at.stands at.over.0 at.over.1
 
 -- a comparison's row names it
@@ -34,11 +34,11 @@ kind_of (compare q k l r) = Compare
 kind_of (negate q d) = Not
 kind_of (connect q j d e) = connective_kind j
 
-top-kind : (R : List Row) (end count : ℕ) (t : Condition) → ConditionAt R end count t → (get_or R (end - 1) blank).kind ≡ kind_of t
-top-kind R end count (truth q b) at = kind-is (row_before R end (row Truth (bit b) 1 q) at.stands)
-top-kind R end count (compare q k l r) at = kind-is (compare-sides at).pair.own
-top-kind R end count (negate q d) at = kind-is (one_in sort.Condition R end d _ at.stands).own
-top-kind R end count (connect q j d e) at = kind-is (pair sort.Condition sort.Condition R end d e _ at.stands).own
+top-kind : {R : List Row} {end count : ℕ} (t : Condition) → ConditionAt R end count t → (get_or R (end - 1) blank).kind ≡ kind_of t
+top-kind {R} {end} (truth q b) at = kind-is (row_before R end (row Truth (bit b) 1 q) at.stands)
+top-kind {R} {end} (compare q k l r) at = kind-is (compare-sides at).pair.own
+top-kind {R} {end} (negate q d) at = kind-is (one_in sort.Condition R end d _ at.stands).own
+top-kind {R} {end} (connect q j d e) at = kind-is (pair sort.Condition sort.Condition R end d e _ at.stands).own
 
 pub condition-end : {R : List Row} {end count : ℕ} {t : Condition} → ConditionAt R end count t → (1 ≤ end) × (end ≤ length R)
 condition-end {R} {end} {count} {t} at = end-in sort.Condition R end t at.stands
@@ -69,18 +69,36 @@ truthful-at R end count (connect q both d e) at k = absurd cc
 truthful-at R end count (connect q either d e) at k = absurd cc
 
 pub truthful : {R : List Row} {end count : ℕ} {t : Condition} → ConditionAt R end count t → (get_or R (end - 1) blank).kind ≡ Truth → Truthful R end t
-truthful {R} {end} {count} {t} at k = truthful-at R end count t at (sym (top-kind R end count t at) ∙ k)
+truthful {R} {end} {count} {t} at k = truthful-at R end count t at (sym (top-kind t at) ∙ k)
 
-comparing-at : (t : Condition) → kind_of t ≡ Compare → (P : Condition → Type 0) → ((q : ℕ) (k : Comparison) (l r : Sum) → P (compare q k l r)) → P t
-comparing-at (truth q b) k P f = absurd cc
-comparing-at (compare q r l e) k P f = f q r l e
-comparing-at (negate q d) k P f = absurd cc
-comparing-at (connect q both d e) k P f = absurd cc
-comparing-at (connect q either d e) k P f = absurd cc
+pub record Comparing (R : List Row) (end count : ℕ) (t : Condition) : Type 0 where
+  pub place : ℕ
+  pub k : Comparison
+  pub l : Sum
+  pub r : Sum
+  pub is : t ≡ compare place k l r
+  pub sides : Sides R end count l r (row Compare (pos (comparison_number k)) (suc (sum_size l + sum_size r)) place)
+  pub names : comparison_in (get_or R (end - 1) blank).value ≡ Some k
 
--- what holds of each comparison holds of the condition
-pub comparing : {R : List Row} {end count : ℕ} {t : Condition} → ConditionAt R end count t → (get_or R (end - 1) blank).kind ≡ Compare → (P : Condition → Type 0) → ((q : ℕ) (k : Comparison) (l r : Sum) → P (compare q k l r)) → P t
-comparing {R} {end} {count} {t} at k = comparing-at t (sym (top-kind R end count t at) ∙ k)
+comparing-at : (R : List Row) (end count : ℕ) (t : Condition) → ConditionAt R end count t → kind_of t ≡ Compare → Comparing R end count t
+comparing-at R end count (truth q b) at k = absurd cc
+comparing-at R end count (compare q k l r) at e =
+    let S = compare-sides at in
+    record {
+      place = q;
+      k = k;
+      l = l;
+      r = r;
+      is = refl;
+      sides = S;
+      names = ap (λ (x : Row). comparison_in x.value) S.pair.own ∙ names k;
+    }
+comparing-at R end count (negate q d) at k = absurd cc
+comparing-at R end count (connect q both d e) at k = absurd cc
+comparing-at R end count (connect q either d e) at k = absurd cc
+
+pub comparing : {R : List Row} {end count : ℕ} {t : Condition} → ConditionAt R end count t → (get_or R (end - 1) blank).kind ≡ Compare → Comparing R end count t
+comparing {R} {end} {count} {t} at k = comparing-at R end count t at (sym (top-kind t at) ∙ k)
 
 pub record Negating (R : List Row) (end count : ℕ) (t : Condition) : Type 0 where
   pub place : ℕ
@@ -107,7 +125,7 @@ negating-at R end count (connect q both d e) at k = absurd cc
 negating-at R end count (connect q either d e) at k = absurd cc
 
 pub negating : {R : List Row} {end count : ℕ} {t : Condition} → ConditionAt R end count t → (get_or R (end - 1) blank).kind ≡ Not → Negating R end count t
-negating {R} {end} {count} {t} at k = negating-at R end count t at (sym (top-kind R end count t at) ∙ k)
+negating {R} {end} {count} {t} at k = negating-at R end count t at (sym (top-kind t at) ∙ k)
 
 pub record Connecting (R : List Row) (end count : ℕ) (t : Condition) : Type 0 where
   pub place : ℕ
@@ -124,11 +142,11 @@ connected-is : (j : Connective) (x y : Bool) → connected_at (connective_kind j
 connected-is both x y = refl
 connected-is either x y = refl
 
-connecting-at : (R : List Row) (end count : ℕ) (t : Condition) → ConditionAt R end count t → ((get_or R (end - 1) blank).kind ≡ Truth → ⊥) → ((get_or R (end - 1) blank).kind ≡ Compare → ⊥) → ((get_or R (end - 1) blank).kind ≡ Not → ⊥) → Connecting R end count t
-connecting-at R end count (truth q b) at m n o = absurd (m (top-kind R end count (truth q b) at))
-connecting-at R end count (compare q k l r) at m n o = absurd (n (top-kind R end count (compare q k l r) at))
-connecting-at R end count (negate q d) at m n o = absurd (o (top-kind R end count (negate q d) at))
-connecting-at R end count (connect q j l r) at m n o =
+pub connecting : {R : List Row} {end count : ℕ} {t : Condition} → ConditionAt R end count t → ((get_or R (end - 1) blank).kind ≡ Truth → ⊥) → ((get_or R (end - 1) blank).kind ≡ Compare → ⊥) → ((get_or R (end - 1) blank).kind ≡ Not → ⊥) → Connecting R end count t
+connecting {t = truth q b} at m n o = absurd (m (top-kind (truth q b) at))
+connecting {t = compare q k l r} at m n o = absurd (n (top-kind (compare q k l r) at))
+connecting {t = negate q d} at m n o = absurd (o (top-kind (negate q d) at))
+connecting {R} {end} {t = connect q j l r} at m n o =
     let P = pair sort.Condition sort.Condition R end l r _ at.stands in
     record {
       place = q;
@@ -141,6 +159,3 @@ connecting-at R end count (connect q j l r) at m n o =
       right = record { stands = P.right; over = at.over.1 };
       joined = λ x y. ap (λ (k : Kind). connected_at k x y) (kind-is P.own) ∙ connected-is j x y;
     }
-
-pub connecting : {R : List Row} {end count : ℕ} {t : Condition} → ConditionAt R end count t → ((get_or R (end - 1) blank).kind ≡ Truth → ⊥) → ((get_or R (end - 1) blank).kind ≡ Compare → ⊥) → ((get_or R (end - 1) blank).kind ≡ Not → ⊥) → Connecting R end count t
-connecting {R} {end} {count} {t} at m n o = connecting-at R end count t at m n o

@@ -7,17 +7,21 @@ use Rattle.tables.specs.declared.kind.Kind.TheVariants.{Number, Name}
 use Rattle.tables.specs.declared.row.Row.{Row}
 use Rattle.tables.specs.declared.sort.Sort as sorts
 use Rattle.tables.specs.declared.sort.Sort.TheVariants as sort
-use Rattle.tables.specs.Trees.{Sum, number, name, work}
+use Rattle.tables.specs.Trees.{Sum, number, name, work, Condition}
 use Rattle.tables.specs.Rows.{blank, row, operator_kind, sum_rows, sum_size}
 use Rattle.tables.specs.Tables.{SumOver}
 use Rattle.tables.proofs.OfSort.{Of, rows_in, size_in, length-in, top_in}
 use Rattle.screen.specs.Works.{done, sum_work}
 use Rattle.screen.specs.Values.{operator_at}
-use Rattle.screen.specs.Parts.{Before, SumAt}
+use Rattle.screen.specs.Parts.{Before, SumAt, ConditionAt}
 
--- what holds of an end holds of the same end however it was come by
-pub moved : (P : ℕ → Type 0) {m n : ℕ} → n ≡ m → P m → P n
-moved P e h = subst P (sym e) h
+-- a tree stands at an end however that was come by
+
+pub sum-at : {R : List Row} {m n count : ℕ} {t : Sum} → n ≡ m → SumAt R m count t → SumAt R n count t
+sum-at {R} {m} {n} {count} {t} e at = subst (λ (k : ℕ). SumAt R k count t) (sym e) at
+
+pub condition-at : {R : List Row} {m n count : ℕ} {t : Condition} → n ≡ m → ConditionAt R m count t → ConditionAt R n count t
+condition-at {R} {m} {n} {count} {t} e at = subst (λ (k : ℕ). ConditionAt R k count t) (sym e) at
 
 module _ (R : List Row) (end : ℕ) (xs ys : List Row) (b : Before R end (xs ++ ys)) where
   pub right-before : Before R end ys
@@ -150,34 +154,26 @@ pub record Parted (R : List Row) (end count : ℕ) (t : Sum) : Type 0 where
   pub is : t ≡ work place op l r
   pub sides : Sides R end count l r (row (operator_kind op) (pos 0) (suc (sum_size l + sum_size r)) place)
 
-parted-at : (R : List Row) (end count : ℕ) (t : Sum) → SumAt R end count t → ((get_or R (end - 1) blank).kind ≡ Number → ⊥) → ((get_or R (end - 1) blank).kind ≡ Name → ⊥) → Parted R end count t
-parted-at R end count (number q v) at m n = absurd (m (kind-is (number-row R end count q v at)))
-parted-at R end count (name q p) at m n = absurd (n (kind-is (name-row R end count q p at)))
-parted-at R end count (work q o l r) at m n =
+pub parted : {R : List Row} {end count : ℕ} {t : Sum} → SumAt R end count t → ((get_or R (end - 1) blank).kind ≡ Number → ⊥) → ((get_or R (end - 1) blank).kind ≡ Name → ⊥) → Parted R end count t
+parted {R} {end} {count} {t = number q v} at m n = absurd (m (kind-is (number-row R end count q v at)))
+parted {R} {end} {count} {t = name q p} at m n = absurd (n (kind-is (name-row R end count q p at)))
+parted {R} {end} {count} {t = work q o l r} at m n =
     record { place = q; op = o; l = l; r = r; is = refl; sides = work-sides R end count q o l r at }
 
-pub parted : {R : List Row} {end count : ℕ} {t : Sum} → SumAt R end count t → ((get_or R (end - 1) blank).kind ≡ Number → ⊥) → ((get_or R (end - 1) blank).kind ≡ Name → ⊥) → Parted R end count t
-parted {R} {end} {count} {t} at m n = parted-at R end count t at m n
-
-operator-number : (o : Operator) → operator_kind o ≡ Number → ⊥
-operator-number operator.Add e = cc
-operator-number operator.Sub e = cc
-operator-number operator.Mul e = cc
-operator-number operator.Div e = cc
-
-operator-name : (o : Operator) → operator_kind o ≡ Name → ⊥
-operator-name operator.Add e = cc
-operator-name operator.Sub e = cc
-operator-name operator.Mul e = cc
-operator-name operator.Div e = cc
+-- no operator's row is a number or a name
+operator-apart : (o : Operator) → (operator_kind o ≡ Number → ⊥) × (operator_kind o ≡ Name → ⊥)
+operator-apart operator.Add = (λ e. cc, λ e. cc)
+operator-apart operator.Sub = (λ e. cc, λ e. cc)
+operator-apart operator.Mul = (λ e. cc, λ e. cc)
+operator-apart operator.Div = (λ e. cc, λ e. cc)
 
 -- a number's row, and a name's
 
-pub number-work : (R : List Row) (end count : ℕ) (p : List ℤ) (t : Sum) → SumAt R end count t → (get_or R (end - 1) blank).kind ≡ Number → sum_work t p ≡ done 1 (get_or R (end - 1) blank).value
-number-work R end count p (number q v) at k = ap (λ (x : Row). done 1 x.value) (sym (number-row R end count q v at))
-number-work R end count p (name q x) at k = let r = kind-is (name-row R end count q x at) in cc
-number-work R end count p (work q o l r) at k =
-    absurd (operator-number o (sym (kind-is (work-sides R end count q o l r at).pair.own) ∙ k))
+pub number-work : {R : List Row} {end count : ℕ} (p : List ℤ) {t : Sum} → SumAt R end count t → (get_or R (end - 1) blank).kind ≡ Number → sum_work t p ≡ done 1 (get_or R (end - 1) blank).value
+number-work {R} {end} {count} p {t = number q v} at k = ap (λ (x : Row). done 1 x.value) (sym (number-row R end count q v at))
+number-work {R} {end} {count} p {t = name q x} at k = let r = kind-is (name-row R end count q x at) in cc
+number-work {R} {end} {count} p {t = work q o l r} at k =
+    absurd ((operator-apart o).0 (sym (kind-is (work-sides R end count q o l r at).pair.own) ∙ k))
 
 pub record Named (R : List Row) (end count : ℕ) (p : List ℤ) (t : Sum) : Type 0 where
   pub point : ℕ
@@ -185,12 +181,12 @@ pub record Named (R : List Row) (end count : ℕ) (p : List ℤ) (t : Sum) : Typ
   pub below : point < count
   pub work : sum_work t p ≡ done 1 (get_or p point (pos 0))
 
-pub named : (R : List Row) (end count : ℕ) (p : List ℤ) (t : Sum) → SumAt R end count t → (get_or R (end - 1) blank).kind ≡ Name → Named R end count p t
-named R end count p (number q v) at k = let r = kind-is (number-row R end count q v at) in absurd cc
-named R end count p (name q x) at k =
+pub named : {R : List Row} {end count : ℕ} (p : List ℤ) {t : Sum} → SumAt R end count t → (get_or R (end - 1) blank).kind ≡ Name → Named R end count p t
+named {R} {end} {count} p {t = number q v} at k = let r = kind-is (number-row R end count q v at) in absurd cc
+named {R} {end} {count} p {t = name q x} at k =
     record { point = x; value = ap (λ (y : Row). y.value) (name-row R end count q x at); below = at.over; work = refl }
-named R end count p (work q o l r) at k =
-    absurd (operator-name o (sym (kind-is (work-sides R end count q o l r at).pair.own) ∙ k))
+named {R} {end} {count} p {t = work q o l r} at k =
+    absurd ((operator-apart o).1 (sym (kind-is (work-sides R end count q o l r at).pair.own) ∙ k))
 
 -- the operator of a row is its tree's
 pub operator-is : (o : Operator) → operator_at (operator_kind o) ≡ o

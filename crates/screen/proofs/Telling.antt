@@ -47,24 +47,42 @@ within-run p t k a (Ok n) p' r = r.2
 within-run p t k a (Err (Stopped s)) p' r = r.2
 within-run p t k a (Err Spent) p' r = tt
 
--- told by cases
+-- what is told of an outcome that is known, and the points it leaves
 
-told-done : (c a : ℕ) (p p' : Points) → c ≤ a → told (done c p') p a ≡ (Ok (ended_at c), p')
-told-done c a p p' h = ap (λ (b : Bool). cond b (Ok (ended_at c), p') (too_dear a p)) (le-leb c a h)
+abbrev tell : Out Points → Outcome
+tell (done c p') = ended_at c
+tell (stop c x q) = stopped_at c x q
+tell lost = ended_at 0
 
-told-stop : (c a : ℕ) (x : RunCause) (q : ℕ) (p : Points) → c ≤ a → told (stop c x q) p a ≡ (Ok (stopped_at c x q), p)
-told-stop c a x q p h = ap (λ (b : Bool). cond b (Ok (stopped_at c x q), p) (too_dear a p)) (le-leb c a h)
+abbrev left_by : Out Points → Points → Points
+left_by (done c p') p = p'
+left_by (stop c x q) p = p
+left_by lost p = p
 
-told-dear : (o : Out Points) (p : Points) (a : ℕ) → a < cost o → told o p a ≡ too_dear a p
-told-dear (done c p') p a h = ap (λ (b : Bool). cond b (Ok (ended_at c), p') (too_dear a p)) (lt-leb c a h)
-told-dear (stop c x q) p a h = ap (λ (b : Bool). cond b (Ok (stopped_at c x q), p) (too_dear a p)) (lt-leb c a h)
-told-dear lost p a h = refl
+tells : (o : Out Points) (p : Points) → Known o → Tells o p (tell o) (left_by o p)
+tells (done c p') p k = (refl, refl)
+tells (stop c x q) p k = (refl, refl)
+tells lost p k = absurd k
 
--- whatever is known of an outcome after so many rounds makes it dear
+told-is : (o : Out Points) (p : Points) (a : ℕ) → Known o → told o p a ≡ cond (leb (cost o) a) (Ok (tell o), left_by o p) (too_dear a p)
+told-is (done c p') p a k = refl
+told-is (stop c x q) p a k = refl
+told-is lost p a k = absurd k
+
+told-cheap : (o : Out Points) (p : Points) (a : ℕ) → Known o → cost o ≤ a → told o p a ≡ (Ok (tell o), left_by o p)
+told-cheap o p a k h = told-is o p a k ∙ ap (λ (b : Bool). cond b (Ok (tell o), left_by o p) (too_dear a p)) (le-leb (cost o) a h)
+
+told-dear : (o : Out Points) (p : Points) (a : ℕ) → Known o → a < cost o → told o p a ≡ too_dear a p
+told-dear o p a k h = told-is o p a k ∙ ap (λ (b : Bool). cond b (Ok (tell o), left_by o p) (too_dear a p)) (lt-leb (cost o) a h)
+
+-- an outcome that so many rounds find is the sheet's, and whatever is known of it then makes it dear
+
+found : (t : Sheet) (p : Points) (a : ℕ) (o : Out Points) → rounds (suc a) t p ≡ o → Known o → Ends t p o
+found t p a o e k = subst (Ends t p) e (sound (suc a) t p (subst Known (sym e) k))
 
 dear-at : (t : Sheet) (p : Points) (a : ℕ) (o : Out Points) → rounds (suc a) t p ≡ o → ((o' : Out Points) → Ends t p o' → a < cost o') → told o p a ≡ too_dear a p
-dear-at t p a (done c v) e h = told-dear (done c v) p a (h (done c v) (subst (Ends t p) e (sound (suc a) t p (subst Known (sym e) tt))))
-dear-at t p a (stop c x q) e h = told-dear (stop c x q) p a (h (stop c x q) (subst (Ends t p) e (sound (suc a) t p (subst Known (sym e) tt))))
+dear-at t p a (done c v) e h = told-dear (done c v) p a tt (h (done c v) (found t p a _ e tt))
+dear-at t p a (stop c x q) e h = told-dear (stop c x q) p a tt (h (stop c x q) (found t p a _ e tt))
 dear-at t p a lost e h = refl
 
 pub ran-told : (t : Sheet) (p : Points) (a : ℕ) (run : Result ℕ Halt) (p' : Points) → Ran p t 0 a run p' → settled run p' p a ≡ told (rounds (suc a) t p) p a
@@ -72,12 +90,12 @@ ran-told t p a (Ok n) p' r =
     let i = r.1 in
     let m : r.0 ≡ n = omega arith in
     let le : r.0 ≤ a = omega (arith, r.2) in
-    sym (ap (λ (o : Out Points). told o p a) (complete r.3 a le) ∙ told-done r.0 a p p' le ∙ ap (λ (k : ℕ). (Ok (ended_at k), p')) m)
+    sym (ap (λ (o : Out Points). told o p a) (complete r.3 a le) ∙ told-cheap (done r.0 p') p a tt le ∙ ap (λ (k : ℕ). (Ok (ended_at k), p')) m)
 ran-told t p a (Err (Stopped s)) p' r =
     let i = r.1 in
     let m : r.0 ≡ s.spent = omega arith in
     let le : r.0 ≤ a = omega (arith, r.2) in
-    sym (ap (λ (o : Out Points). told o p a) (complete r.3 a le) ∙ told-stop r.0 a s.cause s.place p le ∙ ap (λ (k : ℕ). (Ok (stopped_at k s.cause s.place), p)) m)
+    sym (ap (λ (o : Out Points). told o p a) (complete r.3 a le) ∙ told-cheap (stop r.0 s.cause s.place) p a tt le ∙ ap (λ (k : ℕ). (Ok (stopped_at k s.cause s.place), p)) m)
 ran-told t p a (Err Spent) p' r = sym (dear-at t p a (rounds (suc a) t p) refl (λ o e. omega (arith, r o e)))
 
 -- the defined value of a table
@@ -110,13 +128,9 @@ module _ (rows : List Row) (p : Points) (a : ℕ) (r : Result Outcome Fault) (p'
   apart s q e = (ap (λ (z : Told). z.0) e, ap (λ (z : Told). z.1) e)
 
   law-within : (t : Sheet) → TableOf t rows p → (o : Out Points) → Ends t p o → cost o ≤ a → (x : Outcome) × (r ≡ Ok x) × Tells o p x p'
-  law-within t T (done c p'') e h =
-      let k = apart (Ok (ended_at c)) p'' (to-told t T ∙ ap (λ (o : Out Points). told o p a) (complete e a h) ∙ told-done c a p p'' h) in
-      (ended_at c, k.0, (refl, k.1))
-  law-within t T (stop c x q) e h =
-      let k = apart (Ok (stopped_at c x q)) p (to-told t T ∙ ap (λ (o : Out Points). told o p a) (complete e a h) ∙ told-stop c a x q p h) in
-      (stopped_at c x q, k.0, (refl, k.1))
-  law-within t T lost e h = absurd (known e)
+  law-within t T o e h =
+      let k = apart _ _ (to-told t T ∙ ap (λ (w : Out Points). told w p a) (complete e a h) ∙ told-cheap o p a (known e) h) in
+      (tell o, k.0, subst (Tells o p (tell o)) (sym k.1) (tells o p (known e)))
 
   law-beyond : (t : Sheet) → TableOf t rows p → (o : Out Points) → Ends t p o → a < cost o → (r ≡ Err (spent_of a)) × (p' ≡ p)
   law-beyond t T o e h =
@@ -128,23 +142,16 @@ module _ (rows : List Row) (p : Points) (a : ℕ) (r : Result Outcome Fault) (p'
 
   -- an answer was earned by an outcome
 
+  earned-known : (x : Outcome) → r ≡ Ok x → (t : Sheet) → TableOf t rows p → (o : Out Points) → Known o → Ends t p o → (b : Bool) → leb (cost o) a ≡ b → (r, p') ≡ cond b (Ok (tell o), left_by o p) (too_dear a p) → (t : Sheet) × TableOf t rows p × (o : Out Points) × Ends t p o × (cost o ≤ a) × Tells o p x p'
+  earned-known x e t T o k d true l f =
+      let m = apart _ _ f in
+      let y : x ≡ tell o = cc (e, m.0) in
+      (t, T, o, d, leb-true (cost o) a l, rw (y, m.1) (tells o p k))
+  earned-known x e t T o k d false l f = let m = apart _ _ f in absurd (cc (e, m.0))
+
   earned-at : (x : Outcome) → r ≡ Ok x → (t : Sheet) → TableOf t rows p → (o : Out Points) → rounds (suc a) t p ≡ o → (r, p') ≡ told o p a → (t : Sheet) × TableOf t rows p × (o : Out Points) × Ends t p o × (cost o ≤ a) × Tells o p x p'
-  earned-at x e t T (done c v) f k = earned-done (leb c a) refl k
-    where
-      earned-done : (b : Bool) → leb c a ≡ b → (r, p') ≡ cond b (Ok (ended_at c), v) (too_dear a p) → (t : Sheet) × TableOf t rows p × (o : Out Points) × Ends t p o × (cost o ≤ a) × Tells o p x p'
-      earned-done true l k =
-          let m = apart _ _ k in
-          let y : x ≡ ended_at c = cc (e, m.0) in
-          (t, T, done c v, subst (Ends t p) f (sound (suc a) t p (subst Known (sym f) tt)), leb-true c a l, (y, m.1))
-      earned-done false l k = let m = apart _ _ k in absurd (cc (e, m.0))
-  earned-at x e t T (stop c y q) f k = earned-stop (leb c a) refl k
-    where
-      earned-stop : (b : Bool) → leb c a ≡ b → (r, p') ≡ cond b (Ok (stopped_at c y q), p) (too_dear a p) → (t : Sheet) × TableOf t rows p × (o : Out Points) × Ends t p o × (cost o ≤ a) × Tells o p x p'
-      earned-stop true l k =
-          let m = apart _ _ k in
-          let z : x ≡ stopped_at c y q = cc (e, m.0) in
-          (t, T, stop c y q, subst (Ends t p) f (sound (suc a) t p (subst Known (sym f) tt)), leb-true c a l, (z, m.1))
-      earned-stop false l k = let m = apart _ _ k in absurd (cc (e, m.0))
+  earned-at x e t T (done c v) f k = earned-known x e t T (done c v) tt (found t p a _ f tt) (leb c a) refl k
+  earned-at x e t T (stop c y q) f k = earned-known x e t T (stop c y q) tt (found t p a _ f tt) (leb c a) refl k
   earned-at x e t T lost f k = let m = apart _ _ k in absurd (cc (e, m.0))
 
   law-earned : (x : Outcome) → r ≡ Ok x → (t : Sheet) × TableOf t rows p × (o : Out Points) × Ends t p o × (cost o ≤ a) × Tells o p x p'
@@ -162,17 +169,13 @@ module _ (rows : List Row) (p : Points) (a : ℕ) (r : Result Outcome Fault) (p'
 
   -- a refusal leaves the points
 
+  kept-known : (f : Fault) → r ≡ Err f → (o : Out Points) (b : Bool) → (r, p') ≡ cond b (Ok (tell o), left_by o p) (too_dear a p) → p' ≡ p
+  kept-known f e o true k = let m = apart _ _ k in absurd (cc (e, m.0))
+  kept-known f e o false k = (apart _ _ k).1
+
   kept_at : (f : Fault) → r ≡ Err f → (o : Out Points) → (r, p') ≡ told o p a → p' ≡ p
-  kept_at f e (done c v) k = kept-done (leb c a) k
-    where
-      kept-done : (b : Bool) → (r, p') ≡ cond b (Ok (ended_at c), v) (too_dear a p) → p' ≡ p
-      kept-done true k = let m = apart _ _ k in absurd (cc (e, m.0))
-      kept-done false k = (apart _ _ k).1
-  kept_at f e (stop c y q) k = kept-stop (leb c a) k
-    where
-      kept-stop : (b : Bool) → (r, p') ≡ cond b (Ok (stopped_at c y q), p) (too_dear a p) → p' ≡ p
-      kept-stop true k = (apart _ _ k).1
-      kept-stop false k = (apart _ _ k).1
+  kept_at f e (done c v) k = kept-known f e (done c v) (leb c a) k
+  kept_at f e (stop c y q) k = kept-known f e (stop c y q) (leb c a) k
   kept_at f e lost k = (apart _ _ k).1
 
   law-kept : (f : Fault) → r ≡ Err f → p' ≡ p

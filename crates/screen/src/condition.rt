@@ -1,7 +1,6 @@
 // Whether conditions hold, from rows. Both sides of a connective are worked out, left first.
-ghost use Rattle.std.specs.Prelude.{◌≡◌, ℕ, ◌+◌, ◌-◌, ◌^◌, ◌<◌, length, slice_index_or};
-ghost use Rattle.arith.specs.declared.comparison.Comparison.{Comparison as Relation};
-ghost use Rattle.tables.specs.Trees.{Condition as ConditionTree, compare as compareOf, Sum as SumTree};
+ghost use Rattle.std.specs.Prelude.{◌≡◌, ◌+◌, ◌-◌, ◌^◌, ◌<◌, length, slice_index_or};
+ghost use Rattle.tables.specs.Trees.{Condition as ConditionTree};
 ghost use Rattle.tables.specs.Rows.{blank};
 ghost use Rattle.screen.specs.Parts.{ConditionAt};
 ghost use Rattle.screen.specs.Values.{out_of, connected_at};
@@ -26,7 +25,12 @@ impl Work<'_> {
         let row = self.rows[end - 1];
         match row.kind {
             Kind::Truth => Ok((row.value == 1, spent + 1)),
-            Kind::Compare => self.compare(end, points, spent),
+            Kind::Compare => {
+                let (left, before) = self.sum(self.start_of(end - 1), points, spent)?;
+                let (right, both) = self.sum(end - 1, points, before)?;
+                let holds = row.comparison().unwrap().holds(left, right);
+                Ok((holds, both + 1))
+            }
             Kind::Not => {
                 let (part, before) = self.condition(end - 1, points, spent)?;
                 Ok((!part, before + 1))
@@ -37,19 +41,6 @@ impl Work<'_> {
                 Ok((connect(row.kind, left, right), both + 1))
             }
         }
-    }
-
-    // A comparison that ends at `end`.
-    fn compare(self, end: usize, points: &[i32], spent: u64) -> Result<(bool, u64), Stop>
-        requires tree { (q : ℕ) × (k : Relation) × (l : SumTree) × (r : SumTree) × ConditionAt self.rows.now end (length points.now) (compareOf q k l r) }
-        requires small { spent + (slice_index_or self.rows.now (end - 1) blank).size < 2 ^ 48 }
-        ensures { (q : ℕ) (k : Relation) (l r : SumTree) → ConditionAt self.entry.rows.now end (length points.now) (compareOf q k l r) → out_of result ≡ after spent (condition_work (compareOf q k l r) points.now) }
-    {
-        let row = self.rows[end - 1];
-        let (left, before) = self.sum(self.start_of(end - 1), points, spent)?;
-        let (right, both) = self.sum(end - 1, points, before)?;
-        let holds = row.comparison().unwrap().holds(left, right);
-        Ok((holds, both + 1))
     }
 }
 

@@ -1,6 +1,6 @@
 // Values of sums, from rows. A row's last part ends just before it, and the part before that where the last one begins.
-ghost use Rattle.std.specs.Prelude.{◌≡◌, ◌+◌, ◌-◌, ◌^◌, ◌<◌, T, length, get_or, pos, slice_index_or, unsigned_abs};
-ghost use Rattle.std.specs.Int.Signed.{non_neg};
+ghost use Rattle.std.specs.Prelude.{◌≡◌, ◌+◌, ◌-◌, ◌^◌, ◌<◌, length, pos, slice_index_or, unsigned_abs};
+ghost use Rattle.std.specs.Int.{IsNonNegative};
 ghost use Rattle.arith.specs.Operators.{worked};
 ghost use Rattle.tables.specs.Trees.{Sum as SumTree};
 ghost use Rattle.tables.specs.Rows.{blank};
@@ -17,7 +17,7 @@ impl Work<'_> {
     // The value of the sum that ends at `end`, and the steps so far.
     pub(crate) fn sum(self, end: usize, points: &[i32], spent: u64) -> Result<(i32, u64), Stop>
         requires tree { (t : SumTree) × SumAt self.rows.now end (length points.now) t }
-        requires small { spent + (get_or self.rows.now (end - 1) blank).size < 2 ^ 48 }
+        requires small { spent + (slice_index_or self.rows.now (end - 1) blank).size < 2 ^ 48 }
         ensures { (t : SumTree) → SumAt self.entry.rows.now end (length points.now) t → out_of result ≡ after spent (sum_work t points.now) }
     {
         let row = self.rows[end - 1];
@@ -35,7 +35,7 @@ impl Work<'_> {
 
 // The number at a name row's point.
 fn read(points: &[i32], point: i32) -> i32
-    requires known { T (non_neg point) }
+    requires known { IsNonNegative point }
     requires below { unsigned_abs point < length points.now }
     ensures { result ≡ slice_index_or points.now (unsigned_abs point) (pos 0) }
 {

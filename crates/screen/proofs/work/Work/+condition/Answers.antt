@@ -1,15 +1,12 @@
-use Rattle.std.proofs.Common.{◌≡◌, ℕ, ◌+◌, Bool, true, false, eqb, length, ℤ, sym, ap, arith, w32, of_z, rules}
+use Rattle.std.proofs.Common.{◌≡◌, ◌+◌, Bool, true, false, eqb, ℤ, is_some, Some, sym, ap, ◌∙◌, arith, w32, to_z, of_z, rules}
 use mathlib.Core.Bool as bool
 use Rattle.std.proofs.lemmas.Result.{err_from_is_err_and}
-use Rattle.arith.specs.declared.comparison.Comparison.{Comparison}
+use Rattle.arith.specs.Comparisons.{holds}
 use Rattle.tables.specs.declared.row.Row.{Row}
-use Rattle.tables.specs.Trees.{Sum, compare}
 use Rattle.tables.specs.Rows.{bit}
-use Rattle.screen.specs.Works.{done, after, connected, condition_work}
-use Rattle.screen.specs.Values.{out_of}
-use Rattle.screen.specs.Parts.{ConditionAt}
-use Rattle.screen.proofs.Costs.{then-done, then-stop, two-done, two-stop, spent-condition}
-use Rattle.screen.proofs.Parting.{moved}
+use Rattle.screen.specs.Works.{done, connected, sum_work, condition_work}
+use Rattle.screen.proofs.Costs.{then-done, then-stop, two-done, two-stop, spent-sum, spent-condition}
+use Rattle.screen.proofs.Parting.{sum-at, condition-at, sum-size}
 use Rattle.screen.proofs.Conditions.{condition-end, condition-size, truthful, comparing, negating, connecting}
 use Rattle.screen.proofs.work.Work.+condition.Goals as goal
 
@@ -19,17 +16,78 @@ overflow_sub-row t c = (condition-end c.requires.tree.1).0
 pub bounds-self-end : goal.bounds-self-end
 bounds-self-end t c = let e = condition-end c.requires.tree.1 in omega (arith, e.0, e.1)
 
-pub compare-requires : goal.compare-requires
-compare-requires t c =
-    let R = c.args.self.rows.now in
-    let n = length c.args.points.now in
-    record {
-      tree = comparing c.requires.tree.1 c.in-Compare.is (λ x. ConditionAt R c.args.end n x → (q : ℕ) × (k : Comparison) × (l : Sum) × (r : Sum) × ConditionAt R c.args.end n (compare q k l r)) (λ q k l r s. (q, k, l, r, s)) c.requires.tree.1;
-      small = c.requires.small;
-    }
-
 pub overflow_sub-end : goal.overflow_sub-end
 overflow_sub-end t c = (condition-end c.requires.tree.1).0
+
+pub start_of-requires : goal.start_of-requires
+start_of-requires t c =
+    let P = (comparing c.requires.tree.1 c.in-Compare.is).sides.pair in
+    record { some = P.last_some; within = omega (arith, P.within); whole = P.room }
+
+pub sum-requires : goal.sum-requires
+sum-requires t c =
+    let C = comparing c.requires.tree.1 c.in-Compare.is in
+    let la = sum-at c.start_of.ensures C.sides.left in
+    let n = sum-size la in
+    let own = ap (λ (x : Row). x.size) C.sides.pair.own in
+    let small = c.requires.small in
+    record { tree = (C.l, la); small = omega arith }
+
+pub returns-in_err-left-in-Compare : goal.returns-in_err-left-in-Compare
+returns-in_err-left-in-Compare t c t' at =
+    let C = comparing at c.in-Compare.is in
+    let la = sum-at c.start_of.ensures C.sides.left in
+    let E = err_from_is_err_and c.from_residual.result c.from_residual.ensures.1 in
+    rw (E.1, E.2, C.is) (then-stop c.args.spent _ _ _ (sum_work C.l c.args.points.now) _ (c.in_err-left-in-Compare.ensures C.l la))
+
+pub overflow_sub-end-in-Compare : goal.overflow_sub-end-in-Compare
+overflow_sub-end-in-Compare t c = (condition-end c.requires.tree.1).0
+
+pub sum-requires-in-Compare : goal.sum-requires-in-Compare
+sum-requires-in-Compare t c =
+    let C = comparing c.requires.tree.1 c.in-Compare.is in
+    let la = sum-at c.start_of.ensures C.sides.left in
+    let before = spent-sum C.l c.args.points.now c.args.spent c.in_ok-left-in-Compare.before c.in_ok-left-in-Compare.left (c.in_ok-left-in-Compare.ensures C.l la) in
+    let n = C.sides.pair.right-size in
+    let own = ap (λ (x : Row). x.size) C.sides.pair.own in
+    let small = c.requires.small in
+    record { tree = (C.r, C.sides.right); small = omega arith }
+
+pub returns-in_err-right-in-Compare : goal.returns-in_err-right-in-Compare
+returns-in_err-right-in-Compare t c t' at =
+    let p = c.args.points.now in
+    let C = comparing at c.in-Compare.is in
+    let la = sum-at c.start_of.ensures C.sides.left in
+    let E = err_from_is_err_and c.from_residual-in_err-right-in-Compare.result c.from_residual-in_err-right-in-Compare.ensures.1 in
+    rw (E.1, E.2, C.is) (two-stop c.args.spent c.in_ok-left-in-Compare.before _ c.in_ok-left-in-Compare.left _ _ (sum_work C.l p) (sum_work C.r p) (λ x y. done 1 (holds C.k x y)) (c.in_ok-left-in-Compare.ensures C.l la) (c.in_err-right-in-Compare.ensures C.r C.sides.right))
+
+pub unwrap-requires : goal.unwrap-requires
+unwrap-requires t c = ap is_some (c.comparison.ensures ∙ (comparing c.requires.tree.1 c.in-Compare.is).names)
+
+pub overflow_add-result-in-Compare : goal.overflow_add-result-in-Compare
+overflow_add-result-in-Compare t c =
+    let p = c.args.points.now in
+    let C = comparing c.requires.tree.1 c.in-Compare.is in
+    let la = sum-at c.start_of.ensures C.sides.left in
+    let before = spent-sum C.l p c.args.spent c.in_ok-left-in-Compare.before c.in_ok-left-in-Compare.left (c.in_ok-left-in-Compare.ensures C.l la) in
+    let both = spent-sum C.r p c.in_ok-left-in-Compare.before c.in_ok-right-in-Compare.both c.in_ok-right-in-Compare.right (c.in_ok-right-in-Compare.ensures C.r C.sides.right) in
+    let own = ap (λ (x : Row). x.size) C.sides.pair.own in
+    let small = c.requires.small in
+    search rules
+
+pub returns-in_ok-right-in-Compare : goal.returns-in_ok-right-in-Compare
+returns-in_ok-right-in-Compare t c t' at =
+    let p = c.args.points.now in
+    let C = comparing at c.in-Compare.is in
+    let la = sum-at c.start_of.ensures C.sides.left in
+    let fl : to_z w32 (of_z w32 c.in_ok-left-in-Compare.left) ≡ c.in_ok-left-in-Compare.left = search rules in
+    let fr : to_z w32 (of_z w32 c.in_ok-right-in-Compare.right) ≡ c.in_ok-right-in-Compare.right = search rules in
+    let named : Some c.unwrap.result ≡ Some C.k = sym c.unwrap.ensures ∙ c.comparison.ensures ∙ C.names in
+    let is : c.unwrap.result ≡ C.k = cc in
+    rw (C.is, c.holds-holds.ensures, fl, fr, is) (two-done c.args.spent c.in_ok-left-in-Compare.before c.in_ok-right-in-Compare.both c.in_ok-left-in-Compare.left c.in_ok-right-in-Compare.right (sum_work C.l p) (sum_work C.r p) (λ x y. done 1 (holds C.k x y)) (c.in_ok-left-in-Compare.ensures C.l la) (c.in_ok-right-in-Compare.ensures C.r C.sides.right))
+
+pub overflow_sub-end-in-Not : goal.overflow_sub-end-in-Not
+overflow_sub-end-in-Not t c = (condition-end c.requires.tree.1).0
 
 pub condition-requires : goal.condition-requires
 condition-requires t c =
@@ -41,7 +99,7 @@ condition-requires t c =
 pub returns-in_err-part-in-Not : goal.returns-in_err-part-in-Not
 returns-in_err-part-in-Not t c t' at =
     let N = negating at c.in-Not.is in
-    let E = err_from_is_err_and c.from_residual.result c.from_residual.ensures.1 in
+    let E = err_from_is_err_and c.from_residual-in_err-part-in-Not.result c.from_residual-in_err-part-in-Not.ensures.1 in
     rw (E.1, E.2, N.is) (then-stop c.args.spent _ _ _ (condition_work N.d c.args.points.now) _ (c.in_err-part-in-Not.ensures N.d N.part))
 
 pub overflow_add-result-in-Not : goal.overflow_add-result-in-Not
@@ -55,15 +113,15 @@ overflow_add-result-in-Not t c =
 pub overflow_sub-end-in_default : goal.overflow_sub-end-in_default
 overflow_sub-end-in_default t c = (condition-end c.requires.tree.1).0
 
-pub start_of-requires : goal.start_of-requires
-start_of-requires t c =
+pub start_of-requires-in_default : goal.start_of-requires-in_default
+start_of-requires-in_default t c =
     let P = (connecting c.requires.tree.1 c.in_default.not-Truth c.in_default.not-Compare c.in_default.not-Not).pair in
     record { some = P.last_some; within = omega (arith, P.within); whole = P.room }
 
 pub condition-requires-in_default : goal.condition-requires-in_default
 condition-requires-in_default t c =
     let C = connecting c.requires.tree.1 c.in_default.not-Truth c.in_default.not-Compare c.in_default.not-Not in
-    let la = moved (λ n. ConditionAt c.args.self.rows.now n (length c.args.points.now) C.l) c.start_of.ensures C.left in
+    let la = condition-at c.start_of-in_default.ensures C.left in
     let n = condition-size la in
     let own = ap (λ (x : Row). x.size) C.pair.own in
     let small = c.requires.small in
@@ -73,7 +131,7 @@ pub returns-in_err-left-in_default : goal.returns-in_err-left-in_default
 returns-in_err-left-in_default t c t' at =
     let p = c.args.points.now in
     let C = connecting at c.in_default.not-Truth c.in_default.not-Compare c.in_default.not-Not in
-    let la = moved (λ n. ConditionAt c.args.self.rows.now n (length p) C.l) c.start_of.ensures C.left in
+    let la = condition-at c.start_of-in_default.ensures C.left in
     let E = err_from_is_err_and c.from_residual-in_err-left-in_default.result c.from_residual-in_err-left-in_default.ensures.1 in
     rw (E.1, E.2, C.is) (then-stop c.args.spent _ _ _ (condition_work C.l p) _ (c.in_err-left-in_default.ensures C.l la))
 
@@ -84,7 +142,7 @@ pub condition-requires-in_default-2 : goal.condition-requires-in_default-2
 condition-requires-in_default-2 t c =
     let p = c.args.points.now in
     let C = connecting c.requires.tree.1 c.in_default.not-Truth c.in_default.not-Compare c.in_default.not-Not in
-    let la = moved (λ n. ConditionAt c.args.self.rows.now n (length p) C.l) c.start_of.ensures C.left in
+    let la = condition-at c.start_of-in_default.ensures C.left in
     let before = spent-condition C.l p c.args.spent c.in_ok-left-in_default.before c.in_ok-left-in_default.left (c.in_ok-left-in_default.ensures C.l la) in
     let n = C.pair.right-size in
     let own = ap (λ (x : Row). x.size) C.pair.own in
@@ -95,7 +153,7 @@ pub returns-in_err-right-in_default : goal.returns-in_err-right-in_default
 returns-in_err-right-in_default t c t' at =
     let p = c.args.points.now in
     let C = connecting at c.in_default.not-Truth c.in_default.not-Compare c.in_default.not-Not in
-    let la = moved (λ n. ConditionAt c.args.self.rows.now n (length p) C.l) c.start_of.ensures C.left in
+    let la = condition-at c.start_of-in_default.ensures C.left in
     let E = err_from_is_err_and c.from_residual-in_err-right-in_default.result c.from_residual-in_err-right-in_default.ensures.1 in
     rw (E.1, E.2, C.is) (two-stop c.args.spent c.in_ok-left-in_default.before _ c.in_ok-left-in_default.left _ _ (condition_work C.l p) (condition_work C.r p) (λ x y. done 1 (connected C.j x y)) (c.in_ok-left-in_default.ensures C.l la) (c.in_err-right-in_default.ensures C.r C.right))
 
@@ -103,7 +161,7 @@ pub overflow_add-result-in_default : goal.overflow_add-result-in_default
 overflow_add-result-in_default t c =
     let p = c.args.points.now in
     let C = connecting c.requires.tree.1 c.in_default.not-Truth c.in_default.not-Compare c.in_default.not-Not in
-    let la = moved (λ n. ConditionAt c.args.self.rows.now n (length p) C.l) c.start_of.ensures C.left in
+    let la = condition-at c.start_of-in_default.ensures C.left in
     let before = spent-condition C.l p c.args.spent c.in_ok-left-in_default.before c.in_ok-left-in_default.left (c.in_ok-left-in_default.ensures C.l la) in
     let both = spent-condition C.r p c.in_ok-left-in_default.before c.in_ok-right-in_default.both c.in_ok-right-in_default.right (c.in_ok-right-in_default.ensures C.r C.right) in
     let own = ap (λ (x : Row). x.size) C.pair.own in
@@ -119,10 +177,6 @@ returns-in-Truth t c t' at =
     let H = truthful at c.in-Truth.is in
     rw H.is (ap (λ (x : Bool). done (c.args.spent + 1) x) (is_one H.holds _ H.value))
 
-pub returns-in-Compare : goal.returns-in-Compare
-returns-in-Compare t c t' at =
-    comparing at c.in-Compare.is (λ x. ConditionAt c.args.self.rows.now c.args.end (length c.args.points.now) x → out_of c.compare.result ≡ after c.args.spent (condition_work x c.args.points.now)) c.compare.ensures at
-
 pub returns-in_ok-part-in-Not : goal.returns-in_ok-part-in-Not
 returns-in_ok-part-in-Not t c t' at =
     let N = negating at c.in-Not.is in
@@ -132,5 +186,5 @@ pub returns-in_ok-right-in_default : goal.returns-in_ok-right-in_default
 returns-in_ok-right-in_default t c t' at =
     let p = c.args.points.now in
     let C = connecting at c.in_default.not-Truth c.in_default.not-Compare c.in_default.not-Not in
-    let la = moved (λ n. ConditionAt c.args.self.rows.now n (length p) C.l) c.start_of.ensures C.left in
+    let la = condition-at c.start_of-in_default.ensures C.left in
     rw (C.is, c.connect.ensures, C.joined c.in_ok-left-in_default.left c.in_ok-right-in_default.right) (two-done c.args.spent c.in_ok-left-in_default.before c.in_ok-right-in_default.both c.in_ok-left-in_default.left c.in_ok-right-in_default.right (condition_work C.l p) (condition_work C.r p) (λ x y. done 1 (connected C.j x y)) (c.in_ok-left-in_default.ensures C.l la) (c.in_ok-right-in_default.ensures C.r C.right))

@@ -6,8 +6,8 @@ use Rattle.tables.specs.Trees.{Sum, Condition, Command, Sheet, set, when, choose
 use Rattle.tables.specs.Rows.{blank}
 use Rattle.screen.specs.Parts.{ConditionAt, SheetAt}
 use Rattle.screen.specs.Runs.{Ran}
-use Rattle.screen.proofs.Parting.{moved}
-use Rattle.screen.proofs.Bodies.{when-parts, while-parts, joint-parts, First, choose-parts, sheet-end, arm, joint-kind}
+use Rattle.screen.proofs.Parting.{condition-at}
+use Rattle.screen.proofs.Bodies.{when-parts, while-parts, joint-parts, lead-at, first-at, choose-parts, sheet-end, arm, joint-kind}
 use Rattle.screen.proofs.Running.{when-ran, when-failed, when-halted, one-more-is, choose-first, choose-second, choose-halted, while-failed, while-halted, while-body-halted, while-more, joint-ran, joint-halted}
 use Rattle.screen.proofs.work.Work.+sheet.Goals as goal
 
@@ -24,12 +24,12 @@ when-start_of-requires-clause-whole t c = (when-parts c.requires.3).pair.room
 
 pub when-judge-requires : goal.when-judge-requires
 when-judge-requires t c =
-    (c.requires.1, moved (λ n. ConditionAt c.args.self.rows.now n (length c.args.points.now) c.requires.1) c.start_of.ensures (when-parts c.requires.3).test)
+    (c.requires.1, condition-at c.start_of.ensures (when-parts c.requires.3).test)
 
 pub when-returns-in_err-holds : goal.when-returns-in_err-holds
 when-returns-in_err-holds t c q h b at =
     let p = c.args.points.now in
-    let test = moved (λ n. ConditionAt c.args.self.rows.now n (length p) h) c.start_of.ensures (when-parts at).test in
+    let test = condition-at c.start_of.ensures (when-parts at).test in
     let E = err_from_is_err_and c.from_residual.result c.from_residual.ensures.1 in
     rw (E.1, E.2) (when-halted q h b p c.args.before c.args.self.allowance _ p (c.in_err-holds.ensures h test))
 
@@ -44,14 +44,14 @@ pub when-returns-then-holds : goal.when-returns-then-holds
 when-returns-then-holds t c q h b at =
     let p = c.args.points.now in
     let T = when-parts at in
-    let test = moved (λ n. ConditionAt c.args.self.rows.now n (length p) h) c.start_of.ensures T.test in
+    let test = condition-at c.start_of.ensures T.test in
     let J = rw c.if-holds.true at (c.in_ok-holds.ensures h test) in
     when-ran q h b p c.args.before c.args.self.allowance c.in_ok-holds.made c.sheet.result c.sheet.new.points J (c.sheet.ensures b T.body)
 
 pub when-returns-else-holds : goal.when-returns-else-holds
 when-returns-else-holds t c q h b at =
     let p = c.args.points.now in
-    let test = moved (λ n. ConditionAt c.args.self.rows.now n (length p) h) c.start_of.ensures (when-parts at).test in
+    let test = condition-at c.start_of.ensures (when-parts at).test in
     let J = rw c.if-holds.false at (c.in_ok-holds.ensures h test) in
     when-failed q h b p c.args.before c.args.self.allowance c.in_ok-holds.made J
 
@@ -63,9 +63,6 @@ choose-start_of-second-requires-clause-some t c = (choose-parts c.requires.4).pa
 pub choose-start_of-second-requires-clause-whole : goal.choose-start_of-second-requires-clause-whole
 choose-start_of-second-requires-clause-whole t c = (choose-parts c.requires.4).pair.room
 
-first-at : {R : List Row} {m n count s : ℕ} {h : Condition} {b : Sheet} → n ≡ m → First R m count s h b → First R n count s h b
-first-at {R} {m} {n} {count} {s} {h} {b} e f = moved (λ k. First R k count s h b) e f
-
 pub choose-start_of-requires-clause-some : goal.choose-start_of-requires-clause-some
 choose-start_of-requires-clause-some t c = (first-at c.start_of-second.ensures (choose-parts c.requires.4).first).some
 
@@ -75,31 +72,31 @@ choose-start_of-requires-clause-whole t c = (first-at c.start_of-second.ensures 
 pub choose-judge-requires : goal.choose-judge-requires
 choose-judge-requires t c =
     let F = first-at c.start_of-second.ensures (choose-parts c.requires.4).first in
-    (c.requires.1, moved (λ n. ConditionAt c.args.self.rows.now n (length c.args.points.now) c.requires.1) c.start_of.ensures F.test)
+    (c.requires.1, condition-at c.start_of.ensures F.test)
 
 pub choose-returns-in_err-holds : goal.choose-returns-in_err-holds
 choose-returns-in_err-holds t c q h b d at =
     let p = c.args.points.now in
     let F = first-at c.start_of-second.ensures (choose-parts at).first in
-    let test = moved (λ n. ConditionAt c.args.self.rows.now n (length p) h) c.start_of.ensures F.test in
+    let test = condition-at c.start_of.ensures F.test in
     let E = err_from_is_err_and c.from_residual.result c.from_residual.ensures.1 in
     rw (E.1, E.2) (choose-halted q h b d p c.args.before c.args.self.allowance _ p (c.in_err-holds.ensures h test))
 
 pub choose-sheet-requires : goal.choose-sheet-requires
 choose-sheet-requires t c =
     let F = first-at c.start_of-second.ensures (choose-parts c.requires.4).first in
-    let f = F.falls in
+    let f = F.body.falls in
     let m = c.decreases in
-    (search rules, (c.requires.2, F.body))
+    (search rules, (c.requires.2, F.body.part))
 
 pub choose-returns-in_err-first : goal.choose-returns-in_err-first
 choose-returns-in_err-first t c q h b d at =
     let p = c.args.points.now in
     let F = first-at c.start_of-second.ensures (choose-parts at).first in
-    let test = moved (λ n. ConditionAt c.args.self.rows.now n (length p) h) c.start_of.ensures F.test in
+    let test = condition-at c.start_of.ensures F.test in
     let J = rw c.if-holds.true at (c.in_ok-holds.ensures h test) in
     let E = err_from_is_err_and c.from_residual-in_err-first.result c.from_residual-in_err-first.ensures.1 in
-    let M = one-more-is p b c.in_ok-holds.made c.args.self.allowance (Err _) (Err _) c.sheet.new.points refl (c.in_err-first.ensures b F.body) in
+    let M = one-more-is p b c.in_ok-holds.made c.args.self.allowance (Err _) (Err _) c.sheet.new.points refl (c.in_err-first.ensures b F.body.part) in
     rw (E.1, E.2) (choose-first q h b d p c.args.before c.args.self.allowance c.in_ok-holds.made (Err _) c.sheet.new.points J M)
 
 pub choose-sheet-requires-else-holds : goal.choose-sheet-requires-else-holds
@@ -113,9 +110,9 @@ pub choose-returns-in_ok-first : goal.choose-returns-in_ok-first
 choose-returns-in_ok-first t c q h b d at =
     let p = c.args.points.now in
     let F = first-at c.start_of-second.ensures (choose-parts at).first in
-    let test = moved (λ n. ConditionAt c.args.self.rows.now n (length p) h) c.start_of.ensures F.test in
+    let test = condition-at c.start_of.ensures F.test in
     let J = rw c.if-holds.true at (c.in_ok-holds.ensures h test) in
-    let M = one-more-is p b c.in_ok-holds.made c.args.self.allowance (Ok c.in_ok-first.first) c.one_more.result c.sheet.new.points c.one_more.ensures (c.in_ok-first.ensures b F.body) in
+    let M = one-more-is p b c.in_ok-holds.made c.args.self.allowance (Ok c.in_ok-first.first) c.one_more.result c.sheet.new.points c.one_more.ensures (c.in_ok-first.ensures b F.body.part) in
     choose-first q h b d p c.args.before c.args.self.allowance c.in_ok-holds.made c.one_more.result c.sheet.new.points J M
 
 pub choose-returns-else-holds : goal.choose-returns-else-holds
@@ -123,7 +120,7 @@ choose-returns-else-holds t c q h b d at =
     let p = c.args.points.now in
     let T = choose-parts at in
     let F = first-at c.start_of-second.ensures T.first in
-    let test = moved (λ n. ConditionAt c.args.self.rows.now n (length p) h) c.start_of.ensures F.test in
+    let test = condition-at c.start_of.ensures F.test in
     let J = rw c.if-holds.false at (c.in_ok-holds.ensures h test) in
     choose-second q h b d p c.args.before c.args.self.allowance c.in_ok-holds.made c.sheet-else-holds.result c.sheet-else-holds.new.points J (c.sheet-else-holds.ensures d T.second)
 
@@ -137,17 +134,15 @@ joint-start_of-requires-clause-whole t c = (joint-parts c.requires.3).pair.room
 
 pub joint-sheet-requires : goal.joint-sheet-requires
 joint-sheet-requires t c =
-    let R = c.args.self.rows.now in
-    let T = joint-parts c.requires.3 in
-    let F = moved (λ n. SheetAt R n (length c.args.points.now) (only c.requires.1) × ((get_or R (n - 1) blank).size < (get_or R (c.args.end - 1) blank).size)) c.start_of.ensures (T.first, T.first-falls) in
-    let f = F.1 in
+    let L = lead-at c.start_of.ensures (joint-parts c.requires.3).first in
+    let f = L.falls in
     let m = c.decreases in
-    (search rules, (only c.requires.1, F.0))
+    (search rules, (only c.requires.1, L.part))
 
 pub joint-returns-in_err-made : goal.joint-returns-in_err-made
 joint-returns-in_err-made t c q k b at =
     let p = c.args.points.now in
-    let first = moved (λ n. SheetAt c.args.self.rows.now n (length p) (only k)) c.start_of.ensures (joint-parts at).first in
+    let first = (lead-at c.start_of.ensures (joint-parts at).first).part in
     let E = err_from_is_err_and c.from_residual.result c.from_residual.ensures.1 in
     rw (E.1, E.2) (joint-halted q k b p c.args.before c.args.self.allowance _ c.sheet.new.points c.sheet.new.points (c.in_err-made.ensures (only k) first))
 
@@ -155,7 +150,7 @@ pub joint-sheet-requires-2 : goal.joint-sheet-requires-2
 joint-sheet-requires-2 t c =
     let T = joint-parts c.requires.3 in
     let l : length c.sheet.new.points ≡ length c.args.points.now = omega (arith, c.sheet.auto.points) in
-    let f = T.rest-falls in
+    let f = T.falls in
     let m = c.decreases in
     (search rules, (c.requires.2, as_long l T.rest))
 
@@ -163,7 +158,7 @@ pub joint-returns : goal.joint-returns
 joint-returns t c q k b at =
     let p = c.args.points.now in
     let T = joint-parts at in
-    let first = moved (λ n. SheetAt c.args.self.rows.now n (length p) (only k)) c.start_of.ensures T.first in
+    let first = (lead-at c.start_of.ensures T.first).part in
     let l : length c.sheet.new.points ≡ length p = omega (arith, c.sheet.auto.points) in
     joint-ran q k b p c.args.before c.args.self.allowance c.in_ok-made.made c.sheet.new.points (c.in_ok-made.ensures (only k) first) c.sheet-2.result c.sheet-2.new.points (c.sheet-2.ensures b (as_long l T.rest))
 
@@ -179,14 +174,14 @@ pub repeat-judge-requires : goal.repeat-judge-requires
 repeat-judge-requires t c =
     let l : length c.rounds.points ≡ length c.args.points.now = omega (arith, c.rounds.auto.points) in
     let T = while-parts (as_long l c.requires.3) in
-    (c.requires.1, moved (λ n. ConditionAt c.args.self.rows.now n (length c.rounds.points) c.requires.1) c.start_of-test.ensures T.test)
+    (c.requires.1, condition-at c.start_of-test.ensures T.test)
 
 pub repeat-returns-in_err-holds : goal.repeat-returns-in_err-holds
 repeat-returns-in_err-holds t c q h b at =
     let p = c.rounds.points in
     let l : length p ≡ length c.args.points.now = omega (arith, c.rounds.auto.points) in
     let at' = as_long l at in
-    let test = moved (λ n. ConditionAt c.args.self.rows.now n (length p) h) c.start_of-test.ensures (while-parts at').test in
+    let test = condition-at c.start_of-test.ensures (while-parts at').test in
     let E = err_from_is_err_and c.from_residual.result c.from_residual.ensures.1 in
     rw (E.1, E.2) (c.rounds.invariant q h b at' (Err _) p (while-halted q h b p c.rounds.made c.args.self.allowance _ p (c.in_err-holds.ensures h test)))
 
@@ -195,7 +190,7 @@ repeat-returns-then-not-holds t c q h b at =
     let p = c.rounds.points in
     let l : length p ≡ length c.args.points.now = omega (arith, c.rounds.auto.points) in
     let at' = as_long l at in
-    let test = moved (λ n. ConditionAt c.args.self.rows.now n (length p) h) c.start_of-test.ensures (while-parts at').test in
+    let test = condition-at c.start_of-test.ensures (while-parts at').test in
     let J = rw c.if-not-holds.true at (c.in_ok-holds.ensures h test) in
     c.rounds.invariant q h b at' (Ok c.in_ok-holds.tested) p (while-failed q h b p c.rounds.made c.args.self.allowance c.in_ok-holds.tested J)
 
@@ -214,7 +209,7 @@ repeat-returns-in_err-body t c q h b at =
     let l : length p ≡ length c.args.points.now = omega (arith, c.rounds.auto.points) in
     let at' = as_long l at in
     let T = while-parts at' in
-    let test = moved (λ n. ConditionAt c.args.self.rows.now n (length p) h) c.start_of-test.ensures T.test in
+    let test = condition-at c.start_of-test.ensures T.test in
     let J = rw c.if-not-holds.false at (c.in_ok-holds.ensures h test) in
     let N = one-more-is p b c.in_ok-holds.tested c.args.self.allowance (Err _) (Err _) p' refl (c.in_err-body.ensures b T.body) in
     let E = err_from_is_err_and c.from_residual-in_err-body.result c.from_residual-in_err-body.ensures.1 in
@@ -227,7 +222,7 @@ repeat-returns-in_err-made t c q h b at =
     let l : length p ≡ length c.args.points.now = omega (arith, c.rounds.auto.points) in
     let at' = as_long l at in
     let T = while-parts at' in
-    let test = moved (λ n. ConditionAt c.args.self.rows.now n (length p) h) c.start_of-test.ensures T.test in
+    let test = condition-at c.start_of-test.ensures T.test in
     let J = rw c.if-not-holds.false at (c.in_ok-holds.ensures h test) in
     let N = one-more-is p b c.in_ok-holds.tested c.args.self.allowance (Ok c.in_ok-body.body) (Err _) p' c.in_err-made.ensures (c.in_ok-body.ensures b T.body) in
     let E = err_from_is_err_and c.from_residual-in_err-made.result c.from_residual-in_err-made.ensures.1 in
@@ -239,7 +234,7 @@ repeat-rounds-smaller t c =
     let b = c.requires.2 in
     let l : length p ≡ length c.args.points.now = omega (arith, c.rounds.auto.points) in
     let T = while-parts (as_long l c.requires.3) in
-    let J = c.in_ok-holds.ensures c.requires.1 (moved (λ n. ConditionAt c.args.self.rows.now n (length p) c.requires.1) c.start_of-test.ensures T.test) in
+    let J = c.in_ok-holds.ensures c.requires.1 (condition-at c.start_of-test.ensures T.test) in
     let N = one-more-is p b c.in_ok-holds.tested c.args.self.allowance (Ok c.in_ok-body.body) (Ok c.in_ok-made.made) c.sheet.new.points c.in_ok-made.ensures (c.in_ok-body.ensures b T.body) in
     omega (arith, J.1, N.1, N.2)
 
@@ -252,7 +247,7 @@ repeat-rounds-preserved t c =
     let l : length p ≡ length p' = omega (arith, c.sheet.auto.points) in
     let at' = as_long l at in
     let T = while-parts at' in
-    let test = moved (λ n. ConditionAt c.args.self.rows.now n (length p) h) c.start_of-test.ensures T.test in
+    let test = condition-at c.start_of-test.ensures T.test in
     let J = rw c.if-not-holds.false at (c.in_ok-holds.ensures h test) in
     let N = one-more-is p b c.in_ok-holds.tested c.args.self.allowance (Ok c.in_ok-body.body) (Ok c.in_ok-made.made) p' c.in_ok-made.ensures (c.in_ok-body.ensures b T.body) in
     c.rounds.invariant q h b at' out p'' (while-more q h b p c.rounds.made c.args.self.allowance c.in_ok-holds.tested c.in_ok-made.made p' J N out p'' r)
