@@ -77,7 +77,7 @@ module _ {V : Type 0} (s : Sums V) (a : Rest V) where
     step-at IfElse st = three-step _ st
     step-at _ st = two-step _ st
 
-  pub tree-passes : (t : Sheet) → passes s a (sheet_rows t) [] ≡ Some (sheet_value s a t ∷ [])
+  tree-passes : (t : Sheet) → passes s a (sheet_rows t) [] ≡ Some (sheet_value s a t ∷ [])
   tree-passes t = ap (λ (rs : List Row). passes s a rs []) (sym (append-nil (sheet_rows t))) ∙ pass-sheet s a t [] []
 
   in-room : (c : ℕ) (rows : List Row) (slots : ℕ) → length rows ≤ slots → length rows ≤ 2048 → folded s a c rows slots ≡ cond (is_table c rows) (cond (leb c 64) (left (passes s a rows [])) (Err (too_many_points c))) (Err no_table_fault)
