@@ -55,10 +55,8 @@ fn sign_from(text: &[u8], start: usize) -> Token
     ensures { result ≡ sign_standing start (drop start text.now) }
 {
     let first = text[start];
-    match text
-        .get(start + 1)
-        .and_then(|second| pair_sign(first, *second))
-    {
+    let second = text.get(start + 1);
+    match second.and_then(|second| pair_sign(first, *second)) {
         Some(symbol) => Token {
             kind: Kind::Sign(symbol),
             start,
