@@ -6,11 +6,12 @@ use Rattle.std.proofs.lemmas.List.{length-append}
 use Rattle.tables.specs.declared.row.Row.{Row}
 use Rattle.tables.specs.Rows.{blank}
 use Rattle.compiler.specs.declared.shape.Shape.{Shape}
+use Rattle.compiler.specs.declared.shape.Shape.TheVariants as shape
 use Rattle.compiler.specs.declared.node.Node.{Node}
 use Rattle.compiler.specs.Nodes.{StandsBefore}
 use Rattle.compiler.specs.Code.{Line}
 use Rattle.compiler.specs.declared.measure.Measure.{Measure}
-use Rattle.compiler.specs.Measures.{shape_of, part_count, own_length, two_depth}
+use Rattle.compiler.specs.Measures.{shape_of, part_count, own_length, two_depth, one_measure, then_measure, two_measure, three_measure}
 use Rattle.compiler.specs.Parts.{Part, zero_part, one_code, one_part, two_code, two_part, three_code, three_part, Own, Stands, zero-stands, one-stands, two-stands, three-stands, IsPart, start_at, shape_at}
 
 -- what the last row of a part says
@@ -103,7 +104,7 @@ three-of R e v (three-stands {x = x} {y = y} {z = z} o f g h) k =
 
 -- no row adds more than two instructions
 
-own-short : (s : Shape) → own_length s ≤ 2
+pub own-short : (s : Shape) → own_length s ≤ 2
 own-short s = grind arith
 
 two-shallow : (s : Shape) (l r m n : ℕ) → l ≤ m → r ≤ n → two_depth s l r ≤ suc (m + n)
@@ -177,6 +178,14 @@ first-part R e h k = ∥∥₁_map h (λ h. let O = three-of R e h.0 h.1 k in (O
 pub standing-at : {R : List Row} {e : ℕ} {n : Node} {v : Part} → StandsBefore R e n → Stands R e v → Stands n.rows.now n.end v
 standing-at {R} {e} {n} {v} h s =
     subst (λ (xs : List Row). Stands xs n.end v) (sym h.rows) (subst (λ (k : ℕ). Stands R k v) (sym h.end) s)
+
+-- parts one after the other and then their row
+
+pub under-two : (s : Shape) (q : ℕ) (x y : Measure) → (s ≡ shape.Pair → ⊥) → one_measure s q (then_measure x y) ≡ two_measure s q x y
+under-two s q x y h = grind (arith, h)
+
+pub under-three : (q : ℕ) (x y z : Measure) → one_measure shape.IfElse q (then_measure (then_measure x y) z) ≡ three_measure q x y z
+under-three q x y z = grind arith
 
 -- what was measured of a node in at most 2,048 rows is small
 pub record Small (m : Measure) : Type 0 where

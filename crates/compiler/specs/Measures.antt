@@ -68,6 +68,14 @@ judged q n d before = record { length = n; depth = d; deep = first_of before (to
 abbrev pub leaf_measure : Measure
 leaf_measure = record { length = 1; depth = 1; deep = None }
 
+-- what is worked out above one value more
+abbrev pub above_measure : Measure → Measure
+above_measure x = record x { depth = x.depth + 1 }
+
+-- one part and then another
+abbrev pub then_measure : Measure → Measure → Measure
+then_measure x y = record { length = x.length + y.length; depth = max x.depth y.depth; deep = first_of x.deep y.deep }
+
 abbrev pub one_measure : Shape → ℕ → Measure → Measure
 one_measure s q x = judged q (x.length + own_length s) x.depth x.deep
 

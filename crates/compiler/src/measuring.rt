@@ -14,14 +14,22 @@ pub(crate) fn measure(node: Node<'_>) -> Measure
     let shape = Shape::from(row.kind);
     match shape {
         Shape::Leaf => Measure::leaf(),
-        Shape::Not | Shape::Set => Measure::of_one(shape, row.place, measure(node.last())),
-        Shape::Pair | Shape::If | Shape::While | Shape::Joint => {
+        Shape::Not | Shape::Set => measure(node.last()).under(shape, row.place),
+        // Only where both parts are values is the second worked out above the first one's.
+        Shape::Pair => {
             let (left, right) = node.two();
-            Measure::of_two(shape, row.place, measure(left), measure(right))
+            let parts = measure(left).then(measure(right).above());
+            parts.under(shape, row.place)
+        }
+        Shape::If | Shape::While | Shape::Joint => {
+            let (first, second) = node.two();
+            let parts = measure(first).then(measure(second));
+            parts.under(shape, row.place)
         }
         Shape::IfElse => {
             let (first, second, third) = node.three();
-            Measure::of_three(row.place, measure(first), measure(second), measure(third))
+            let parts = measure(first).then(measure(second)).then(measure(third));
+            parts.under(shape, row.place)
         }
     }
 }
