@@ -1,15 +1,13 @@
 -- What is read was laid out so: a count, an instruction, a run of fields, and then the file.
-use Rattle.std.proofs.Common.{◌≡◌, ℕ, zero, suc, ◌+◌, ◌*◌, ◌^◌, ◌<◌, true, leb, List, [], ◌∷◌, ◌++◌, length, get_or, drop, Some, None, Ok, Err, Option, Result, sym, refl, ap, ◌∙◌, subst, mul-zero, mul-suc, arith}
+use Rattle.std.proofs.Common.{◌≡◌, ℕ, zero, suc, ◌+◌, ◌*◌, ◌^◌, ◌<◌, true, List, [], ◌∷◌, ◌++◌, length, get_or, drop, Some, None, Ok, Option, Result, sym, refl, ap, ◌∙◌, subst, mul-zero, mul-suc, arith}
 use Rattle.std.specs.List.{flat_map}
 use Rattle.std.proofs.lemmas.Bool.Decides.{nat_tests}
 use Rattle.std.proofs.lemmas.List.{append_assoc, append-nil, get_or-drop, drop-drop}
-use Rattle.std.proofs.lemmas.Bool.{cond_both, and_parts, leb-true}
 use Rattle.faults.specs.declared.fault.Fault.{Fault}
 use Rattle.instructions.specs.declared.instruction.Instruction.{Instruction}
 use Rattle.instructions.specs.Codes.{code_of}
 use Rattle.station_file.specs.Layout.{Contents, two_bytes, four_bytes, instruction_bytes, places_section, file_bytes}
 use Rattle.station_file.specs.Rules.{within, Each, RightInstruction, RightPlace, Right, IsFile}
-use Rattle.station_file.specs.Writing.{not_right}
 use Rattle.station_file.specs.Reading.{then, or_wrong, two_of, four_of, counted, count_field, code_byte, with_operand, instruction_field, place_field, fields, nothing_after, contents, reading_after, reading}
 use Rattle.station_file.proofs.Eachs.{each_none, each-cons}
 use Rattle.station_file.proofs.Digits.{two-only, four-only}

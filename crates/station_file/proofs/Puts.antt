@@ -1,8 +1,9 @@
 -- Bytes put into others: one after another they are put together, and a list of things is put down thing by thing.
-use Rattle.std.proofs.Common.{◌≡◌, ℕ, ◌+◌, ◌*◌, ◌<◌, ◌≤◌, List, [], ◌∷◌, ◌++◌, length, get_or, take, drop, set, sym, ap, ◌∙◌, mul-add, add-one, arith}
+use Rattle.std.proofs.Common.{◌≡◌, ℕ, ◌+◌, ◌*◌, ◌<◌, ◌≤◌, List, [], ◌∷◌, ◌++◌, length, get_or, take, drop, sym, ap, ◌∙◌, arith}
 use Rattle.std.specs.List.{flat_map}
 use Rattle.std.proofs.Math.Nat.{mul-le-mul_left}
-use Rattle.std.proofs.lemmas.List.{append_assoc, length-append, length-take-le, take-append-drop, take_at, drop_at, drop-drop, set_split, take_more, take_all, flat_map_more}
+use Rattle.std.proofs.lemmas.Grind.{common_steps}
+use Rattle.std.proofs.lemmas.List.{append_assoc, length-append, length-take-le, take_at, drop_at, drop-drop, take_more, flat_map_more}
 use Rattle.station_file.specs.Layout.{put}
 
 -- some bytes, and others right after them
@@ -18,12 +19,8 @@ put-put at k xs ys bs e h =
 
 module _ {X : Type 0} (f : X → List ℕ) (k : ℕ) (sized : (x : X) → length (f x) ≡ k) where
   pub length-joined : (xs : List X) → length (flat_map f xs) ≡ k * length xs
-  length-joined [] = omega arith
-  length-joined (x ∷ xs) =
-      let e = length-joined xs in
-      let s = sized x in
-      let m : k * length (x ∷ xs) ≡ k + k * length xs = omega (arith, mul-add k 1 (length xs)) in
-      omega (arith, length-append (f x) (flat_map f xs))
+  length-joined [] = grind (arith, common_steps)
+  length-joined (x ∷ xs) = grind (arith, common_steps, sized x, length-joined xs)
 
   -- one thing more
   pub put-more : (at i : ℕ) (xs : List X) (bs cs ds : List ℕ) (d : X) → i < length xs → at + k * length xs ≤ length bs → cs ≡ put at (flat_map f (take i xs)) bs → ds ≡ put (at + k * i) (f (get_or xs i d)) cs → ds ≡ put at (flat_map f (take (i + 1) xs)) bs
