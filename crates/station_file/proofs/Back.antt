@@ -1,15 +1,15 @@
 -- What is laid out is read back: a count, an instruction, a run of fields, and then the file.
-use Rattle.std.proofs.Common.{◌≡◌, ℕ, suc, ◌+◌, ◌*◌, ◌<◌, ◌≤◌, true, leb, List, [], ◌∷◌, ◌++◌, length, drop, Some, None, Ok, Result, sym, refl, ap, ◌∙◌, arith}
+use Rattle.std.proofs.Common.{◌≡◌, ℕ, ◌+◌, ◌*◌, ◌<◌, ◌≤◌, true, List, [], ◌∷◌, ◌++◌, length, drop, Some, None, Ok, Result, sym, refl, ap, ◌∙◌, arith}
 use Rattle.std.specs.List.{flat_map}
 use Rattle.std.proofs.lemmas.Bool.Decides.{nat_tests}
 use Rattle.std.proofs.lemmas.List.{append_assoc, append-nil, length-append, drop_at, drop-drop}
-use Rattle.std.proofs.lemmas.Bool.{cond-true, and_parts, and_from, leb-true, le-leb}
+use Rattle.std.proofs.lemmas.Bool.{cond-true}
 use Rattle.faults.specs.declared.fault.Fault.{Fault}
 use Rattle.instructions.specs.declared.instruction.Instruction.{Instruction}
 use Rattle.instructions.specs.Codes.{code_of}
-use Rattle.station_file.specs.Layout.{Contents, two_bytes, four_bytes, operand_of, instruction_bytes, code_section, places_section, file_bytes}
+use Rattle.station_file.specs.Layout.{Contents, two_bytes, operand_of, instruction_bytes, code_section, places_section, file_bytes}
 use Rattle.station_file.specs.Rules.{within, Each, RightInstruction, RightPlace, Right}
-use Rattle.station_file.specs.Reading.{then, or_wrong, four_of, counted, count_field, code_byte, with_operand, instruction_field, place_field, fields, reading}
+use Rattle.station_file.specs.Reading.{or_wrong, count_field, code_byte, instruction_field, place_field, fields, reading}
 use Rattle.station_file.proofs.Eachs.{each-parts}
 use Rattle.station_file.proofs.Sectioned.{length-code, length-places}
 use Rattle.station_file.proofs.Digits.{two_back, four-back}
@@ -36,8 +36,13 @@ module _ {X : Type 0} (field : ℕ → List ℕ → Result X Fault) (w : ℕ) (l
   fields_back (x ∷ xs) before at rest g =
       let good = each-parts Good x xs g in
       let after = flat_map lay xs ++ rest in
-      let on = λ (y : X). fields field w (length xs) (before ++ y ∷ []) (at + w) (drop w (lay x ++ after)) in
-      ap (fields field w (suc (length xs)) before at) (append_assoc (lay x) (flat_map lay xs) rest) ∙ fields-on field w (length xs) before at (lay x ++ after) ∙ ap (λ r. then r on) (back at x after good.0) ∙ ap (fields field w (length xs) (before ++ x ∷ []) (at + w)) (drop_at (lay x) after w (sized x)) ∙ fields_back xs (before ++ x ∷ []) (at + w) rest good.1 ∙ ap Ok (append_assoc before (x ∷ []) xs)
+      let joined = append_assoc (lay x) (flat_map lay xs) rest in
+      let on = fields-on field w (length xs) before at (lay x ++ after) in
+      let first = back at x after good.0 in
+      let left = drop_at (lay x) after w (sized x) in
+      let others = fields_back xs (before ++ x ∷ []) (at + w) rest good.1 in
+      let all = append_assoc before (x ∷ []) xs in
+      cc
 
 pub file-back : (f : Contents) → Right f → reading (file_bytes f) ≡ Ok f
 file-back f r =

@@ -5,8 +5,7 @@ use Rattle.std.proofs.lemmas.Bool.Decides.{nat_tests}
 use Rattle.std.proofs.lemmas.List.{append_assoc, append-nil, get_or-drop, drop-drop}
 use Rattle.faults.specs.declared.fault.Fault.{Fault}
 use Rattle.instructions.specs.declared.instruction.Instruction.{Instruction}
-use Rattle.instructions.specs.Codes.{code_of}
-use Rattle.station_file.specs.Layout.{Contents, two_bytes, four_bytes, instruction_bytes, places_section, file_bytes}
+use Rattle.station_file.specs.Layout.{Contents, two_bytes, four_bytes, instruction_bytes, file_bytes}
 use Rattle.station_file.specs.Rules.{within, Each, RightInstruction, RightPlace, Right, IsFile}
 use Rattle.station_file.specs.Reading.{then, or_wrong, two_of, four_of, counted, count_field, code_byte, with_operand, instruction_field, place_field, fields, nothing_after, contents, reading_after, reading}
 use Rattle.station_file.proofs.Eachs.{each_none, each-cons}

@@ -25,7 +25,9 @@ module _ {X : Type 0} (f : X → List ℕ) (k : ℕ) (sized : (x : X) → length
   -- one thing more
   pub put-more : (at i : ℕ) (xs : List X) (bs cs ds : List ℕ) (d : X) → i < length xs → at + k * length xs ≤ length bs → cs ≡ put at (flat_map f (take i xs)) bs → ds ≡ put (at + k * i) (f (get_or xs i d)) cs → ds ≡ put at (flat_map f (take (i + 1) xs)) bs
   put-more at i xs bs cs ds d h room e g =
-      let n : length (flat_map f (take i xs)) ≡ k * i = length-joined (take i xs) ∙ ap (λ m. k * m) (length-take-le i xs (omega arith)) in
-      let j : flat_map f (take i xs) ++ f (get_or xs i d) ≡ flat_map f (take (i + 1) xs) = flat_map_more f [] (take i xs) (get_or xs i d) ∙ ap (flat_map f) (sym (take_more xs i d h)) in
       let fit : at + k * i ≤ length bs = omega (arith, mul-le-mul_left {m = i} {n = length xs} k (omega arith)) in
-      g ∙ ap (put (at + k * i) (f (get_or xs i d))) e ∙ put-put at (at + k * i) (flat_map f (take i xs)) (f (get_or xs i d)) bs (ap (λ m. at + m) (sym n)) fit ∙ ap (λ t. put at t bs) j
+      let n : length (flat_map f (take i xs)) ≡ k * i = length-joined (take i xs) ∙ ap (λ m. k * m) (length-take-le i xs (omega arith)) in
+      let j = flat_map_more f [] (take i xs) (get_or xs i d) in
+      let t = take_more xs i d h in
+      let p = put-put at (at + k * i) (flat_map f (take i xs)) (f (get_or xs i d)) bs (omega arith) fit in
+      cc
