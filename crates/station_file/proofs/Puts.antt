@@ -15,7 +15,9 @@ put-put at k xs ys bs e h =
     let first : take k (put at xs bs) ≡ take at bs ++ xs = ap (take k) apart ∙ take_at (take at bs ++ xs) rest k front in
     let last : drop k (put at xs bs) ≡ rest = ap (drop k) apart ∙ drop_at (take at bs ++ xs) rest k front in
     let both : drop (length ys) rest ≡ drop (length (xs ++ ys)) (drop at bs) = drop-drop (length ys) (length xs) (drop at bs) ∙ ap (λ n. drop n (drop at bs)) (sym (length-append xs ys)) in
-    ap (λ t. t ++ (ys ++ drop (length ys) (drop k (put at xs bs)))) first ∙ ap (λ t. (take at bs ++ xs) ++ (ys ++ drop (length ys) t)) last ∙ append_assoc (take at bs) xs (ys ++ drop (length ys) rest) ∙ ap (λ t. take at bs ++ (xs ++ (ys ++ t))) both ∙ ap (λ t. take at bs ++ t) (sym (append_assoc xs ys (drop (length (xs ++ ys)) (drop at bs))))
+    let joined = append_assoc (take at bs) xs (ys ++ drop (length ys) rest) in
+    let parts = append_assoc xs ys (drop (length (xs ++ ys)) (drop at bs)) in
+    cc
 
 module _ {X : Type 0} (f : X → List ℕ) (k : ℕ) (sized : (x : X) → length (f x) ≡ k) where
   pub length-joined : (xs : List X) → length (flat_map f xs) ≡ k * length xs
