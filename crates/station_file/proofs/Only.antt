@@ -1,15 +1,12 @@
 -- What is read was laid out so: a count, an instruction, a run of fields, and then the file.
-use Rattle.std.proofs.Common.{◌≡◌, ℕ, zero, suc, ◌+◌, ◌*◌, ◌^◌, ◌<◌, true, leb, List, [], ◌∷◌, ◌++◌, length, get_or, drop, Some, None, Ok, Err, Option, Result, sym, refl, ap, ◌∙◌, subst, mul-zero, mul-suc, arith}
+use Rattle.std.proofs.Common.{◌≡◌, ℕ, zero, suc, ◌+◌, ◌*◌, ◌^◌, ◌<◌, true, List, [], ◌∷◌, ◌++◌, length, get_or, drop, Some, None, Ok, Option, Result, sym, refl, ap, ◌∙◌, subst, mul-zero, mul-suc, arith}
 use Rattle.std.specs.List.{flat_map}
 use Rattle.std.proofs.lemmas.Bool.Decides.{nat_tests}
 use Rattle.std.proofs.lemmas.List.{append_assoc, append-nil, get_or-drop, drop-drop}
-use Rattle.std.proofs.lemmas.Bool.{cond_both, and_parts, leb-true}
 use Rattle.faults.specs.declared.fault.Fault.{Fault}
 use Rattle.instructions.specs.declared.instruction.Instruction.{Instruction}
-use Rattle.instructions.specs.Codes.{code_of}
-use Rattle.station_file.specs.Layout.{Contents, two_bytes, four_bytes, instruction_bytes, places_section, file_bytes}
+use Rattle.station_file.specs.Layout.{Contents, two_bytes, four_bytes, instruction_bytes, file_bytes}
 use Rattle.station_file.specs.Rules.{within, Each, RightInstruction, RightPlace, Right, IsFile}
-use Rattle.station_file.specs.Writing.{not_right}
 use Rattle.station_file.specs.Reading.{then, or_wrong, two_of, four_of, counted, count_field, code_byte, with_operand, instruction_field, place_field, fields, nothing_after, contents, reading_after, reading}
 use Rattle.station_file.proofs.Eachs.{each_none, each-cons}
 use Rattle.station_file.proofs.Digits.{two-only, four-only}
@@ -61,11 +58,7 @@ operand-front points count c (a ∷ b ∷ []) i s e = cc e
 operand-front points count c (a ∷ b ∷ d ∷ []) i s e = cc e
 operand-front points count c (a ∷ b ∷ d ∷ f ∷ bs) i s e =
     let w = a + b * 256 + d * 65536 + f * 16777216 in
-    let x0 = s 0 in
-    let x1 = s 1 in
-    let x2 = s 2 in
-    let x3 = s 3 in
-    let fits : w < 2 ^ 32 = omega arith in
+    let fits : w < 2 ^ 32 = omega (arith, s 0, s 1, s 2, s 3) in
     (w, ap (λ t. t ++ bs) (sym (four-only a b d f (s 0) (s 1) (s 2) (s 3))), decoded-only points count w fits c i e)
 
 instruction-only : (points count at : ℕ) (i : Instruction) (bs : List ℕ) → Small bs → instruction_field points count at bs ≡ Ok i → (bs ≡ instruction_bytes i ++ drop 5 bs) × RightInstruction points count i
@@ -75,7 +68,8 @@ instruction-only points count at i bs s e =
     let front = code-front bs c (or-wrong-parts at (code_byte bs) c parts.1) in
     let four = operand-front points count c (drop 1 bs) i (small-drop 1 bs s) (or-wrong-parts (at + 1) _ i parts.2) in
     let d = four.2 in
-    (front ∙ ap (λ t. c ∷ t) four.1 ∙ ap (λ t. c ∷ (four_bytes four.0 ++ t)) (drop-drop 4 1 bs) ∙ ap (λ k. k ∷ (four_bytes four.0 ++ drop 5 bs)) (sym d.code) ∙ ap (λ k. code_of i ∷ (four_bytes k ++ drop 5 bs)) (sym d.operand), d.right)
+    let five = drop-drop 4 1 bs in
+    (cc (front, four.1, d.code, d.operand), d.right)
 
 module _ {X : Type 0} (field : ℕ → List ℕ → Result X Fault) (w : ℕ) (lay : X → List ℕ) (Good : X → Type 0) (only : (at : ℕ) (x : X) (bs : List ℕ) → Small bs → field at bs ≡ Ok x → (bs ≡ lay x ++ drop w bs) × (Good x)) where
   -- what was read after what had been read before, and the bytes that it stood in
@@ -117,10 +111,12 @@ file-laid : (bs : List ℕ) (points n m : ℕ) (is : List Instruction) (ps : Lis
 file-laid bs points n m is ps li lp em a b c d e end =
     let six : (4 + 5 * n) + 2 ≡ 6 + 5 * n = omega arith in
     let all : (6 + 5 * n) + 2 * n ≡ 6 + 7 * n = omega arith in
-    let places : drop (6 + 5 * n) bs ≡ flat_map two_bytes ps = e ∙ ap (λ t. flat_map two_bytes ps ++ t) (drop-drop (2 * n) (6 + 5 * n) bs ∙ ap (λ k. drop k bs) all ∙ end) ∙ append-nil (flat_map two_bytes ps) in
-    let second : drop (4 + 5 * n) bs ≡ places_section ps = d ∙ ap (λ t. two_bytes m ++ t) (drop-drop 2 (4 + 5 * n) bs ∙ ap (λ k. drop k bs) six ∙ places) ∙ ap (λ k. two_bytes k ++ flat_map two_bytes ps) (em ∙ sym lp) in
-    let code : drop 4 bs ≡ flat_map instruction_bytes is ++ places_section ps = c ∙ ap (λ t. flat_map instruction_bytes is ++ t) (drop-drop (5 * n) 4 bs ∙ second) in
-    a ∙ ap (λ t. two_bytes points ++ t) (b ∙ ap (λ t. two_bytes n ++ t) (drop-drop 2 2 bs ∙ code) ∙ ap (λ k. two_bytes k ++ (flat_map instruction_bytes is ++ places_section ps)) (sym li))
+    let ends = append-nil (flat_map two_bytes ps) in
+    let p = drop-drop 2 2 bs in
+    let q = drop-drop (5 * n) 4 bs in
+    let r = drop-drop 2 (4 + 5 * n) bs in
+    let t = drop-drop (2 * n) (6 + 5 * n) bs in
+    cc
 
 pub file-only : (bs : List ℕ) (f : Contents) → Small bs → reading bs ≡ Ok f → IsFile bs f
 file-only bs f s e =

@@ -1,8 +1,9 @@
 -- Bytes put into others: one after another they are put together, and a list of things is put down thing by thing.
-use Rattle.std.proofs.Common.{◌≡◌, ℕ, ◌+◌, ◌*◌, ◌<◌, ◌≤◌, List, [], ◌∷◌, ◌++◌, length, get_or, take, drop, set, sym, ap, ◌∙◌, mul-add, add-one, arith}
+use Rattle.std.proofs.Common.{◌≡◌, ℕ, ◌+◌, ◌*◌, ◌<◌, ◌≤◌, List, [], ◌∷◌, ◌++◌, length, get_or, take, drop, sym, ap, ◌∙◌, arith}
 use Rattle.std.specs.List.{flat_map}
 use Rattle.std.proofs.Math.Nat.{mul-le-mul_left}
-use Rattle.std.proofs.lemmas.List.{append_assoc, length-append, length-take-le, take-append-drop, take_at, drop_at, drop-drop, set_split, take_more, take_all, flat_map_more}
+use Rattle.std.proofs.lemmas.Grind.{common_steps}
+use Rattle.std.proofs.lemmas.List.{append_assoc, length-append, length-take-le, take_at, drop_at, drop-drop, take_more, flat_map_more}
 use Rattle.station_file.specs.Layout.{put}
 
 -- some bytes, and others right after them
@@ -14,21 +15,21 @@ put-put at k xs ys bs e h =
     let first : take k (put at xs bs) ≡ take at bs ++ xs = ap (take k) apart ∙ take_at (take at bs ++ xs) rest k front in
     let last : drop k (put at xs bs) ≡ rest = ap (drop k) apart ∙ drop_at (take at bs ++ xs) rest k front in
     let both : drop (length ys) rest ≡ drop (length (xs ++ ys)) (drop at bs) = drop-drop (length ys) (length xs) (drop at bs) ∙ ap (λ n. drop n (drop at bs)) (sym (length-append xs ys)) in
-    ap (λ t. t ++ (ys ++ drop (length ys) (drop k (put at xs bs)))) first ∙ ap (λ t. (take at bs ++ xs) ++ (ys ++ drop (length ys) t)) last ∙ append_assoc (take at bs) xs (ys ++ drop (length ys) rest) ∙ ap (λ t. take at bs ++ (xs ++ (ys ++ t))) both ∙ ap (λ t. take at bs ++ t) (sym (append_assoc xs ys (drop (length (xs ++ ys)) (drop at bs))))
+    let joined = append_assoc (take at bs) xs (ys ++ drop (length ys) rest) in
+    let parts = append_assoc xs ys (drop (length (xs ++ ys)) (drop at bs)) in
+    cc
 
 module _ {X : Type 0} (f : X → List ℕ) (k : ℕ) (sized : (x : X) → length (f x) ≡ k) where
   pub length-joined : (xs : List X) → length (flat_map f xs) ≡ k * length xs
-  length-joined [] = omega arith
-  length-joined (x ∷ xs) =
-      let e = length-joined xs in
-      let s = sized x in
-      let m : k * length (x ∷ xs) ≡ k + k * length xs = omega (arith, mul-add k 1 (length xs)) in
-      omega (arith, length-append (f x) (flat_map f xs))
+  length-joined [] = grind (arith, common_steps)
+  length-joined (x ∷ xs) = grind (arith, common_steps, sized x, length-joined xs)
 
   -- one thing more
   pub put-more : (at i : ℕ) (xs : List X) (bs cs ds : List ℕ) (d : X) → i < length xs → at + k * length xs ≤ length bs → cs ≡ put at (flat_map f (take i xs)) bs → ds ≡ put (at + k * i) (f (get_or xs i d)) cs → ds ≡ put at (flat_map f (take (i + 1) xs)) bs
   put-more at i xs bs cs ds d h room e g =
-      let n : length (flat_map f (take i xs)) ≡ k * i = length-joined (take i xs) ∙ ap (λ m. k * m) (length-take-le i xs (omega arith)) in
-      let j : flat_map f (take i xs) ++ f (get_or xs i d) ≡ flat_map f (take (i + 1) xs) = flat_map_more f [] (take i xs) (get_or xs i d) ∙ ap (flat_map f) (sym (take_more xs i d h)) in
       let fit : at + k * i ≤ length bs = omega (arith, mul-le-mul_left {m = i} {n = length xs} k (omega arith)) in
-      g ∙ ap (put (at + k * i) (f (get_or xs i d))) e ∙ put-put at (at + k * i) (flat_map f (take i xs)) (f (get_or xs i d)) bs (ap (λ m. at + m) (sym n)) fit ∙ ap (λ t. put at t bs) j
+      let n : length (flat_map f (take i xs)) ≡ k * i = length-joined (take i xs) ∙ ap (λ m. k * m) (length-take-le i xs (omega arith)) in
+      let j = flat_map_more f [] (take i xs) (get_or xs i d) in
+      let t = take_more xs i d h in
+      let p = put-put at (at + k * i) (flat_map f (take i xs)) (f (get_or xs i d)) bs (omega arith) fit in
+      cc

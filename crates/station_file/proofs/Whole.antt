@@ -1,14 +1,13 @@
 -- The writer's two sections, one after the other, are a file.
-use Rattle.std.proofs.Common.{◌≡◌, ℕ, ◌+◌, ◌*◌, ◌<◌, ◌≤◌, true, ◌&&◌, ltb, List, ◌++◌, length, get_or, take, drop, Some, None, Ok, sym, refl, ap, ◌∙◌, arith}
+use Rattle.std.proofs.Common.{◌≡◌, ℕ, ◌+◌, ◌*◌, ◌<◌, ◌≤◌, true, List, ◌++◌, length, get_or, take, drop, None, Ok, sym, refl, ap, ◌∙◌, arith}
 use Rattle.std.proofs.lemmas.List.{append_assoc, length-append, length-take-le, take_at}
 use Rattle.std.proofs.lemmas.Bool.Decides.{nat_tests}
-use Rattle.std.proofs.lemmas.Bool.{cond-true, cond_both, and_parts, and_from, ltb-true, le-leb}
 use Rattle.instructions.specs.declared.instruction.Instruction.{Instruction}
 use Rattle.station_file.specs.declared.state.Begin.{Begin}
 use Rattle.station_file.specs.declared.state.AfterInstructions.{AfterInstructions}
 use Rattle.station_file.specs.Layout.{code_section, places_section, file_bytes, put}
 use Rattle.station_file.specs.Rules.{within, Held, Each, RightCode, RightPlace, Right, IsFile}
-use Rattle.station_file.specs.Writing.{first_wrong, wrong_code, wrong_places, begun}
+use Rattle.station_file.specs.Writing.{wrong_code, wrong_places, begun}
 use Rattle.station_file.specs.Reading.{contents, reading}
 use Rattle.station_file.specs.Laws.{Begins}
 use Rattle.station_file.proofs.Eachs.{each_from}
@@ -24,15 +23,14 @@ pub begins : (s : Begin) (points : ℕ) (code : List Instruction) (bs cs : List 
 begins s points code bs cs w few right p e =
     let sec = code_section points code in
     let parts = counts-right points code w in
-    let one = parts.1 in
-    let start : s.at ≡ 0 = ap (λ (b : Begin). b.at) e in
-    let size : length sec ≡ s.at + (4 + 5 * length code) = omega (arith, length-code points code) in
+    let start : s.at ≡ 0 = cc e in
     let front : cs ≡ sec ++ drop (length sec) bs = p ∙ ap (λ k. put k sec bs) start in
+    let end = s.at + (4 + 5 * length code) in
     record {
-      stands = ap (take (s.at + (4 + 5 * length code))) front ∙ take_at sec (drop (length sec) bs) (s.at + (4 + 5 * length code)) size;
+      stands = ap (take end) front ∙ take_at sec (drop (length sec) bs) end (omega (arith, length-code points code));
       counted = refl;
       right-points = parts.0;
-      right-count = and_from _ _ (le-leb 1 (length code) (omega arith)) (le-leb (length code) 1024 few);
+      right-count = grind (arith, nat_tests);
       right-code = right;
     }
 
@@ -61,7 +59,7 @@ taken-is-right points code places held small w many =
     let few = judged.1 in
     record {
       points = parts.0;
-      count = and_from _ _ (le-leb 1 (length code) (omega arith)) (le-leb (length code) 1024 (omega arith));
+      count = grind (arith, nat_tests);
       code = judged.0;
       as_many = as_many (length code) (length places) many;
       places = small;

@@ -15,6 +15,7 @@ use crate::unread::Unread;
 use faults::{Fault, FileCause};
 use instructions::Instruction;
 
+// A thing that a section lists, in a width of its own: its bytes, and what is read where a file has one.
 pub(crate) trait Field<const WIDTH: usize>: Copy {
     ghost bytes_of: { Self → List ℕ };
 
@@ -71,6 +72,7 @@ impl Field<2> for u16 {
     }
 }
 
+// One after another, from a position on.
 pub(crate) fn put_each<T: Field<WIDTH>, const WIDTH: usize>(
     bytes: &mut [u8],
     at: usize,
@@ -84,7 +86,7 @@ pub(crate) fn put_each<T: Field<WIDTH>, const WIDTH: usize>(
     }
 }
 
-// As many as the file counts, in the first of the slots.
+// As many as the file counts, in the first of the slots; the others stay blank.
 pub(crate) fn read_each<T: Field<WIDTH>, const WIDTH: usize>(
     unread: &mut Unread<'_>,
     counts: Counts,

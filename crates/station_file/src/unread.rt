@@ -4,11 +4,11 @@ ghost use Rattle.std.specs.Prelude.{◌≡◌, ◌≤◌, length, OnSome, OnOk, 
 use crate::refusals::refused;
 use faults::{Fault, FileCause};
 
-// The codes of instructions are 0 to this one.
+// The codes of instructions are 0 to this one. A byte past it is wrong itself, and not the operand after it.
 const LAST_CODE: u8 = 13;
 
-// The bytes of a file from a position on. Each field that is read moves it on by the field's width, as long as none is
-// wrong: at the first that is, the reading ends.
+// The bytes of a file, and the position of the next field. Each field that is read moves it on by the field's width. At
+// the first one that is wrong the reading ends, so nothing is said of where that leaves it.
 #[derive(Drop)]
 pub(crate) struct Unread<'a> {
     pub(crate) bytes: &'a [u8],

@@ -1,4 +1,4 @@
-use Rattle.std.proofs.Common.{◌≡◌, ◌+◌, ◌*◌, length, take, drop, Ok, Err, sym, ap, ◌∙◌, mul-add, arith}
+use Rattle.std.proofs.Common.{◌≡◌, ◌+◌, ◌*◌, take, drop, Ok, Err, sym, ap, ◌∙◌, mul-add, arith}
 use Rattle.std.proofs.lemmas.List.{take_at, take_all, length-set}
 use Rattle.std.proofs.lemmas.Result.{err_from_is_err_and}
 use Rattle.station_file.specs.Reading.{filled}

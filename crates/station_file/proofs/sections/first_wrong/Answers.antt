@@ -1,8 +1,7 @@
-use Rattle.std.proofs.Common.{◌≡◌, ℕ, ◌<◌, ◌≤◌, length, sym, refl, ◌∙◌, subst, arith}
+use Rattle.std.proofs.Common.{◌<◌, length, sym, refl, ◌∙◌, arith}
 use Rattle.std.proofs.lemmas.Bool.{and_left, and_right, and_from, lt-ltb, le-ltb}
-use Rattle.std.proofs.lemmas.List.{take_all}
 use Rattle.instructions.specs.declared.instruction.Instruction.TheVariants.{Pop}
-use Rattle.station_file.specs.Rules.{Each, RightInstruction}
+use Rattle.station_file.specs.Rules.{RightInstruction}
 use Rattle.station_file.proofs.Eachs.{each_none, each_more}
 use Rattle.station_file.proofs.Judged.{wrong-here, wrong-later, wrong-none}
 use Rattle.station_file.proofs.sections.first_wrong.Goals.{then-i-ge-MOST_INSTRUCTIONS-via-then-i-ge-MOST_INSTRUCTIONS, then-i-ge-MOST_INSTRUCTIONS-via-else-i-ge-MOST_INSTRUCTIONS+then-not-is_allowed}

@@ -1,12 +1,11 @@
-use Rattle.std.proofs.Common.{◌≡◌, ℕ, ◌+◌, List, drop, Ok, Option, sym, ap, ◌∙◌, rules}
+use Rattle.std.proofs.Common.{◌≡◌, ℕ, ◌+◌, List, drop, Ok, Option, ap, ◌∙◌, rules}
 use Rattle.std.proofs.lemmas.List.{drop-drop}
-use Rattle.station_file.specs.Reading.{then, or_wrong, four_of, code_byte, with_operand, instruction_field}
+use Rattle.station_file.specs.Reading.{or_wrong, four_of, code_byte, with_operand, instruction_field}
 use Rattle.station_file.proofs.fields.InstructionField5.read.Goals as goal
 
 -- the instruction of a code byte that is one and of the operand after it
 instruction-there : (points count at c : ℕ) (bs : List ℕ) (o : Option ℕ) → Ok c ≡ or_wrong at (code_byte (drop at bs)) → o ≡ four_of (drop (at + 1) bs) → or_wrong (at + 1) (with_operand points count c o) ≡ instruction_field points count at (drop at bs)
-instruction-there points count at c bs o e f =
-    ap (λ p. or_wrong (at + 1) (with_operand points count c p)) (f ∙ ap four_of (sym (drop-drop 1 at bs))) ∙ ap (λ r. then r (λ k. or_wrong (at + 1) (with_operand points count k (four_of (drop 1 (drop at bs)))))) e
+instruction-there points count at c bs o e f = let after = drop-drop 1 at bs in cc
 
 pub returns-clause-value : goal.returns-clause-value
 returns-clause-value c =
