@@ -1,5 +1,6 @@
 -- Where a place stands, as people count: its line is one more than the newlines before it, its column one more than the
--- bytes since the last of them, and the line's text goes from there up to the next newline or the end.
+-- bytes since the last of them, and the line's text goes from there up to the next newline or the end. And what is
+-- printed of it: the line, with a caret below the place.
 use Rattle.std.specs.Prelude.{◌≡◌, ℕ, suc, ◌+◌, ◌-◌, min, cond, ◌&&◌, List, [], ◌∷◌, ◌++◌, length, take, drop, map, codes, decimal, ◌==◌, nat_le}
 use Rattle.excerpts.specs.declared.excerpt.Excerpt.{Excerpt}
 
