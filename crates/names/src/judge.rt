@@ -14,6 +14,7 @@ const MOST_NAMES: usize = 64;
 
 const LONGEST_NAME: usize = 16;
 
+// What a town asks is which line is bad, so that line is the answer here, and no error of the call.
 pub fn first_bad_line(text: &[u8]) -> Option<BadLine>
     ensures value { result ≡ bad_line_of text.now }
     ensures accepts { Accepts text.now (or_fault text.now result) }
