@@ -1,6 +1,7 @@
 -- Where a place stands, as people count: its line is one more than the newlines before it, its column one more than the
--- bytes since the last of them, and the line's text goes from there up to the next newline or the end.
-use Rattle.std.specs.Prelude.{◌≡◌, ℕ, suc, ◌+◌, ◌-◌, min, cond, List, [], ◌∷◌, length, take, drop, ◌==◌}
+-- bytes since the last of them, and the line's text goes from there up to the next newline or the end. And what is
+-- printed of it: the line, with a caret below the place.
+use Rattle.std.specs.Prelude.{◌≡◌, ℕ, suc, ◌+◌, ◌-◌, min, cond, ◌&&◌, List, [], ◌∷◌, ◌++◌, length, take, drop, map, codes, decimal, ◌==◌, nat_le}
 use Rattle.excerpts.specs.declared.excerpt.Excerpt.{Excerpt}
 
 abbrev pub newlines : List ℕ → ℕ
@@ -42,3 +43,19 @@ excerpt_at text end back =
 
 abbrev pub excerpt_of : List ℕ → ℕ → Shown
 excerpt_of text place = excerpt_at text (min place (length text)) (since (take (min place (length text)) text))
+
+-- what is printed for a byte of the line: a tab stays one, and a byte that has no sign in ASCII is a question mark
+abbrev pub shown_as : ℕ → ℕ
+shown_as b = cond (b == 9) 9 (cond (nat_le 32 b && nat_le b 126) b 63)
+
+-- what stands below it, left of the caret
+abbrev pub under : ℕ → ℕ
+under b = cond (b == 9) 9 32
+
+abbrev pub heading : ℕ → ℕ → List ℕ
+heading line column = codes "line " ++ (decimal line ++ (codes ", column " ++ (decimal column ++ codes "\n")))
+
+-- the heading, the line, and below it the caret under the place
+abbrev pub excerpt_words : Excerpt → List ℕ
+excerpt_words e =
+    heading e.line e.column ++ (map shown_as e.text.now ++ (codes "\n" ++ (map under (take (e.column - 1) e.text.now) ++ codes "^")))

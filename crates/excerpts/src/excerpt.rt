@@ -1,6 +1,6 @@
 // The line of a place.
-ghost use Rattle.std.specs.Prelude.{◌≡◌, ◌≤◌, length};
-ghost use Rattle.excerpts.specs.Excerpts.{Spot, line_end, shown_by, excerpt_of};
+ghost use Rattle.std.specs.Prelude.{◌≡◌, ◌<◌, ◌≤◌, length, Some};
+ghost use Rattle.excerpts.specs.Excerpts.{Spot, line_end, shown_by, excerpt_of, shown_as, under, excerpt_words};
 
 use std::fmt;
 
@@ -50,6 +50,8 @@ fn line_end(text: &[u8], start: usize) -> usize
 // The line with a caret under the place. A tab stays one in both lines, so that the caret stands where it should; a byte
 // that has no sign in ASCII is shown as a question mark.
 impl fmt::Display for Excerpt<'_> {
+    ghost output = { λ e. Some (excerpt_words e) };
+
     fn fmt<W: fmt::Write>(&self, f: &mut fmt::Formatter<W>) -> fmt::Result {
         writeln!(f, "line {}, column {}", self.line, self.column)?;
         for b in self.text {
@@ -63,7 +65,10 @@ impl fmt::Display for Excerpt<'_> {
     }
 }
 
-fn shown_as(b: u8) -> char {
+fn shown_as(b: u8) -> char
+    ensures value { result ≡ shown_as b }
+    ensures ascii { result < 128 }
+{
     match b {
         b'\t' => '\t',
         b' '..=b'~' => b as char,
@@ -71,6 +76,9 @@ fn shown_as(b: u8) -> char {
     }
 }
 
-fn under(b: u8) -> char {
+fn under(b: u8) -> char
+    ensures value { result ≡ under b }
+    ensures ascii { result < 128 }
+{
     if b == b'\t' { '\t' } else { ' ' }
 }

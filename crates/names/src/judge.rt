@@ -14,6 +14,7 @@ const MOST_NAMES: usize = 64;
 
 const LONGEST_NAME: usize = 16;
 
+// What a town asks is which line is bad, so that line is the answer here, and no error of the call.
 pub fn first_bad_line(text: &[u8]) -> Option<BadLine>
     ensures value { result ≡ bad_line_of text.now }
     ensures accepts { Accepts text.now (or_fault text.now result) }
@@ -35,13 +36,11 @@ pub(crate) fn judge(text: &[u8]) -> Result<(), BadLine>
     }
     let mut start = 0;
     for (count, line) in Lines::new(text).enumerate() {
-        if let Some(complaint) = complaint_of(count, &text[..start], line) {
-            return Err(BadLine {
-                start,
-                line: count + 1,
-                complaint,
-            });
-        }
+        judge_line(count, &text[..start], line).map_err(|complaint| BadLine {
+            start,
+            line: count + 1,
+            complaint,
+        })?;
         start += line.len() + 1;
     }
     if start < text.len() {
@@ -54,20 +53,25 @@ pub(crate) fn judge(text: &[u8]) -> Result<(), BadLine>
     Ok(())
 }
 
-// What is wrong with a line after `count` good ones, whose text is `seen`.
-fn complaint_of(count: usize, seen: &[u8], line: &[u8]) -> Option<Complaint>
-    ensures { result ≡ complaint_of count (lines_of seen.now) line.now }
+// Whether a line can be a name after `count` good ones, whose text is `seen`; if not, what is wrong with it.
+fn judge_line(count: usize, seen: &[u8], line: &[u8]) -> Result<(), Complaint>
+    ensures { result_err result ≡ complaint_of count (lines_of seen.now) line.now }
 {
     if count >= MOST_NAMES {
-        Some(Complaint::TooMany)
-    } else if !is_word(line) {
-        Some(shape_complaint(line))
-    } else if line.len() > LONGEST_NAME {
-        Some(Complaint::TooLong)
-    } else if is_reserved(line) {
-        Some(Complaint::Reserved)
-    } else {
-        find_line(seen, line).map(Complaint::Repeated)
+        return Err(Complaint::TooMany);
+    }
+    if !is_word(line) {
+        return Err(shape_complaint(line));
+    }
+    if line.len() > LONGEST_NAME {
+        return Err(Complaint::TooLong);
+    }
+    if is_reserved(line) {
+        return Err(Complaint::Reserved);
+    }
+    match find_line(seen, line) {
+        Some(point) => Err(Complaint::Repeated(point)),
+        None => Ok(()),
     }
 }
 

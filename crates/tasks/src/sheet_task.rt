@@ -11,6 +11,7 @@ pub enum SheetTask {
 }
 
 impl SheetTask {
+    // An `Option`, and no `FromStr`, as for the tasks that need no sheet: what no word names is for the caller to say.
     pub fn named(word: &str) -> Option<SheetTask>
         ensures { result ≡ sheet_task_named word.now }
     {

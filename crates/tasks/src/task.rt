@@ -10,6 +10,7 @@ pub enum Task {
 }
 
 impl Task {
+    // A word that names none is no error yet, since it may name a task on a sheet: so an `Option`, and no `FromStr`.
     pub fn named(word: &str) -> Option<Task>
         ensures { result ≡ task_named word.now }
     {
