@@ -10,7 +10,7 @@ use Rattle.tables.specs.Rows.{blank, condition_rows, sheet_rows, condition_size,
 use Rattle.tables.specs.Tables.{ConditionOver, SheetOver}
 use Rattle.tables.proofs.OfSort.{length-in, some-rows}
 use Rattle.screen.specs.Parts.{Before, ConditionAt, SheetAt}
-use Rattle.screen.proofs.Parting.{right-before, left-before, end-in, one_in, Pair, pair, kind-is}
+use Rattle.screen.proofs.Parting.{condition-at, right-before, left-before, end-in, one_in, Pair, pair, kind-is}
 
 -- a condition and a body, under if or while
 pub record Testing (R : List Row) (end count : ℕ) (h : Condition) (b : Sheet) : Type 0 where
@@ -38,6 +38,19 @@ when-parts {R} {end} {count} {q} {h} {b} at = testing R end count h b _ refl at.
 
 pub while-parts : {R : List Row} {end count q : ℕ} {h : Condition} {b : Sheet} → SheetAt R end count (only (while q h b)) → Testing R end count h b
 while-parts {R} {end} {count} {q} {h} {b} at = testing R end count h b _ refl at.stands at.over.0 at.over.1
+
+-- the same of a loop, whose condition ends at s, whichever turn the points are from
+pub record Looping (R : List Row) (end s count q : ℕ) (h : Condition) (b : Sheet) : Type 0 where
+  pub loop : SheetAt R end count (only (while q h b))
+  pub test : ConditionAt R s count h
+  pub body : SheetAt R (end - 1) count b
+  pub falls : (get_or R (end - 1 - 1) blank).size < (get_or R (end - 1) blank).size
+
+pub looping : {R : List Row} {end s m n q : ℕ} {h : Condition} {b : Sheet} → s ≡ end - 1 - (get_or R (end - 1 - 1) blank).size → n ≡ m → SheetAt R end m (only (while q h b)) → Looping R end s n q h b
+looping {R} {end} {s} {m} {n} {q} {h} {b} e l at =
+    let at' = subst (λ (k : ℕ). SheetAt R end k (only (while q h b))) (sym l) at in
+    let T = while-parts at' in
+    record { loop = at'; test = condition-at e T.test; body = T.body; falls = T.falls }
 
 -- a first part, which ends at s, under a row of size m
 pub record Lead (R : List Row) (s count m : ℕ) (b : Sheet) : Type 0 where

@@ -1,7 +1,6 @@
 -- What is told is what the state model says, and its laws.
 use Rattle.std.proofs.Common.{◌≡◌, ℕ, suc, ◌+◌, ◌-◌, ◌<◌, ◌≤◌, Bool, true, false, cond, leb, List, length, get_or, take, is_ok, Ok, Err, Option, Result, sym, refl, ap, ◌∙◌, subst, arith}
 use Rattle.std.proofs.lemmas.Bool.{leb-true, le-leb, lt-leb}
-use Rattle.faults.specs.declared.causes.RunCause.{RunCause}
 use Rattle.faults.specs.declared.fault.Fault.{Fault}
 use Rattle.tables.specs.declared.row.Row.{Row}
 use Rattle.tables.specs.Trees.{Sheet}

@@ -1,18 +1,18 @@
 -- A part stands where the code finds it, so each call's promise is about the tree's own part.
-use Rattle.std.proofs.Common.{◌≡◌, ℕ, ◌-◌, ◌<◌, List, length, get_or, Ok, Err, refl, sym, subst, arith, rules}
+use Rattle.std.proofs.Common.{◌≡◌, ℕ, ◌-◌, List, length, get_or, Ok, Err, Result, refl, sym, subst, arith, rules}
 use Rattle.std.proofs.lemmas.Result.{err_from_is_err_and}
+use Rattle.tables.specs.declared.kind.Kind.{Kind}
 use Rattle.tables.specs.declared.row.Row.{Row}
 use Rattle.tables.specs.Trees.{Sum, Condition, Command, Sheet, set, when, choose, while, only, joint}
 use Rattle.tables.specs.Rows.{blank}
-use Rattle.screen.specs.Parts.{ConditionAt, SheetAt}
+use Rattle.screen.specs.declared.halt.Halt.{Halt}
+use Rattle.screen.specs.Works.{Points}
+use Rattle.screen.specs.Parts.{SheetAt}
 use Rattle.screen.specs.Runs.{Ran}
 use Rattle.screen.proofs.Parting.{condition-at}
-use Rattle.screen.proofs.Bodies.{when-parts, while-parts, joint-parts, lead-at, first-at, choose-parts, sheet-end, arm, joint-kind}
+use Rattle.screen.proofs.Bodies.{when-parts, while-parts, looping, joint-parts, lead-at, first-at, choose-parts, sheet-end, Arm, arm, joint-kind}
 use Rattle.screen.proofs.Running.{when-ran, when-failed, when-halted, one-more-is, choose-first, choose-second, choose-halted, while-failed, while-halted, while-body-halted, while-more, joint-ran, joint-halted}
 use Rattle.screen.proofs.work.Work.+sheet.Goals as goal
-
-as_long : {R : List Row} {end m n : ℕ} {b : Sheet} → n ≡ m → SheetAt R end m b → SheetAt R end n b
-as_long {R} {end} {m} {n} {b} e at = subst (λ (k : ℕ). SheetAt R end k b) (sym e) at
 
 -- if
 
@@ -146,6 +146,9 @@ joint-returns-in_err-made t c q k b at =
     let E = err_from_is_err_and c.from_residual.result c.from_residual.ensures.1 in
     rw (E.1, E.2) (joint-halted q k b p c.args.before c.args.self.allowance _ c.sheet.new.points c.sheet.new.points (c.in_err-made.ensures (only k) first))
 
+as_long : {R : List Row} {end m n : ℕ} {b : Sheet} → n ≡ m → SheetAt R end m b → SheetAt R end n b
+as_long {R} {end} {m} {n} {b} e at = subst (λ (k : ℕ). SheetAt R end k b) (sym e) at
+
 pub joint-sheet-requires-2 : goal.joint-sheet-requires-2
 joint-sheet-requires-2 t c =
     let T = joint-parts c.requires.3 in
@@ -173,69 +176,62 @@ repeat-start_of-test-requires-clause-whole t c = (while-parts c.requires.3).pair
 pub repeat-judge-requires : goal.repeat-judge-requires
 repeat-judge-requires t c =
     let l : length c.rounds.points ≡ length c.args.points.now = omega (arith, c.rounds.auto.points) in
-    let T = while-parts (as_long l c.requires.3) in
-    (c.requires.1, condition-at c.start_of-test.ensures T.test)
+    (c.requires.1, (looping c.start_of-test.ensures l c.requires.3).test)
 
 pub repeat-returns-in_err-holds : goal.repeat-returns-in_err-holds
 repeat-returns-in_err-holds t c q h b at =
     let p = c.rounds.points in
     let l : length p ≡ length c.args.points.now = omega (arith, c.rounds.auto.points) in
-    let at' = as_long l at in
-    let test = condition-at c.start_of-test.ensures (while-parts at').test in
+    let L = looping c.start_of-test.ensures l at in
     let E = err_from_is_err_and c.from_residual.result c.from_residual.ensures.1 in
-    rw (E.1, E.2) (c.rounds.invariant q h b at' (Err _) p (while-halted q h b p c.rounds.made c.args.self.allowance _ p (c.in_err-holds.ensures h test)))
+    rw (E.1, E.2) (c.rounds.invariant q h b L.loop (Err _) p (while-halted q h b p c.rounds.made c.args.self.allowance _ p (c.in_err-holds.ensures h L.test)))
 
 pub repeat-returns-then-not-holds : goal.repeat-returns-then-not-holds
 repeat-returns-then-not-holds t c q h b at =
     let p = c.rounds.points in
     let l : length p ≡ length c.args.points.now = omega (arith, c.rounds.auto.points) in
-    let at' = as_long l at in
-    let test = condition-at c.start_of-test.ensures (while-parts at').test in
-    let J = rw c.if-not-holds.true at (c.in_ok-holds.ensures h test) in
-    c.rounds.invariant q h b at' (Ok c.in_ok-holds.tested) p (while-failed q h b p c.rounds.made c.args.self.allowance c.in_ok-holds.tested J)
+    let L = looping c.start_of-test.ensures l at in
+    let J = rw c.if-not-holds.true at (c.in_ok-holds.ensures h L.test) in
+    c.rounds.invariant q h b L.loop (Ok c.in_ok-holds.tested) p (while-failed q h b p c.rounds.made c.args.self.allowance c.in_ok-holds.tested J)
 
 pub repeat-sheet-requires : goal.repeat-sheet-requires
 repeat-sheet-requires t c =
     let l : length c.rounds.points ≡ length c.args.points.now = omega (arith, c.rounds.auto.points) in
-    let T = while-parts (as_long l c.requires.3) in
-    let f = T.falls in
+    let L = looping c.start_of-test.ensures l c.requires.3 in
+    let f = L.falls in
     let m = c.decreases in
-    (search rules, (c.requires.2, T.body))
+    (search rules, (c.requires.2, L.body))
 
 pub repeat-returns-in_err-body : goal.repeat-returns-in_err-body
 repeat-returns-in_err-body t c q h b at =
     let p = c.rounds.points in
     let p' = c.sheet.new.points in
     let l : length p ≡ length c.args.points.now = omega (arith, c.rounds.auto.points) in
-    let at' = as_long l at in
-    let T = while-parts at' in
-    let test = condition-at c.start_of-test.ensures T.test in
-    let J = rw c.if-not-holds.false at (c.in_ok-holds.ensures h test) in
-    let N = one-more-is p b c.in_ok-holds.tested c.args.self.allowance (Err _) (Err _) p' refl (c.in_err-body.ensures b T.body) in
+    let L = looping c.start_of-test.ensures l at in
+    let J = rw c.if-not-holds.false at (c.in_ok-holds.ensures h L.test) in
+    let N = one-more-is p b c.in_ok-holds.tested c.args.self.allowance (Err _) (Err _) p' refl (c.in_err-body.ensures b L.body) in
     let E = err_from_is_err_and c.from_residual-in_err-body.result c.from_residual-in_err-body.ensures.1 in
-    rw (E.1, E.2) (c.rounds.invariant q h b at' (Err _) p' (while-body-halted q h b p c.rounds.made c.args.self.allowance c.in_ok-holds.tested _ p' p' J N))
+    rw (E.1, E.2) (c.rounds.invariant q h b L.loop (Err _) p' (while-body-halted q h b p c.rounds.made c.args.self.allowance c.in_ok-holds.tested _ p' p' J N))
 
 pub repeat-returns-in_err-made : goal.repeat-returns-in_err-made
 repeat-returns-in_err-made t c q h b at =
     let p = c.rounds.points in
     let p' = c.sheet.new.points in
     let l : length p ≡ length c.args.points.now = omega (arith, c.rounds.auto.points) in
-    let at' = as_long l at in
-    let T = while-parts at' in
-    let test = condition-at c.start_of-test.ensures T.test in
-    let J = rw c.if-not-holds.false at (c.in_ok-holds.ensures h test) in
-    let N = one-more-is p b c.in_ok-holds.tested c.args.self.allowance (Ok c.in_ok-body.body) (Err _) p' c.in_err-made.ensures (c.in_ok-body.ensures b T.body) in
+    let L = looping c.start_of-test.ensures l at in
+    let J = rw c.if-not-holds.false at (c.in_ok-holds.ensures h L.test) in
+    let N = one-more-is p b c.in_ok-holds.tested c.args.self.allowance (Ok c.in_ok-body.body) (Err _) p' c.in_err-made.ensures (c.in_ok-body.ensures b L.body) in
     let E = err_from_is_err_and c.from_residual-in_err-made.result c.from_residual-in_err-made.ensures.1 in
-    rw (E.1, E.2) (c.rounds.invariant q h b at' (Err _) p' (while-body-halted q h b p c.rounds.made c.args.self.allowance c.in_ok-holds.tested _ p' p' J N))
+    rw (E.1, E.2) (c.rounds.invariant q h b L.loop (Err _) p' (while-body-halted q h b p c.rounds.made c.args.self.allowance c.in_ok-holds.tested _ p' p' J N))
 
 pub repeat-rounds-smaller : goal.repeat-rounds-smaller
 repeat-rounds-smaller t c =
     let p = c.rounds.points in
     let b = c.requires.2 in
     let l : length p ≡ length c.args.points.now = omega (arith, c.rounds.auto.points) in
-    let T = while-parts (as_long l c.requires.3) in
-    let J = c.in_ok-holds.ensures c.requires.1 (condition-at c.start_of-test.ensures T.test) in
-    let N = one-more-is p b c.in_ok-holds.tested c.args.self.allowance (Ok c.in_ok-body.body) (Ok c.in_ok-made.made) c.sheet.new.points c.in_ok-made.ensures (c.in_ok-body.ensures b T.body) in
+    let L = looping c.start_of-test.ensures l c.requires.3 in
+    let J = c.in_ok-holds.ensures c.requires.1 L.test in
+    let N = one-more-is p b c.in_ok-holds.tested c.args.self.allowance (Ok c.in_ok-body.body) (Ok c.in_ok-made.made) c.sheet.new.points c.in_ok-made.ensures (c.in_ok-body.ensures b L.body) in
     omega (arith, J.1, N.1, N.2)
 
 -- a turn more, and then however it goes on
@@ -245,12 +241,10 @@ repeat-rounds-preserved t c =
     let p = c.rounds.points in
     let p' = c.sheet.new.points in
     let l : length p ≡ length p' = omega (arith, c.sheet.auto.points) in
-    let at' = as_long l at in
-    let T = while-parts at' in
-    let test = condition-at c.start_of-test.ensures T.test in
-    let J = rw c.if-not-holds.false at (c.in_ok-holds.ensures h test) in
-    let N = one-more-is p b c.in_ok-holds.tested c.args.self.allowance (Ok c.in_ok-body.body) (Ok c.in_ok-made.made) p' c.in_ok-made.ensures (c.in_ok-body.ensures b T.body) in
-    c.rounds.invariant q h b at' out p'' (while-more q h b p c.rounds.made c.args.self.allowance c.in_ok-holds.tested c.in_ok-made.made p' J N out p'' r)
+    let L = looping c.start_of-test.ensures l at in
+    let J = rw c.if-not-holds.false at (c.in_ok-holds.ensures h L.test) in
+    let N = one-more-is p b c.in_ok-holds.tested c.args.self.allowance (Ok c.in_ok-body.body) (Ok c.in_ok-made.made) p' c.in_ok-made.ensures (c.in_ok-body.ensures b L.body) in
+    c.rounds.invariant q h b L.loop out p'' (while-more q h b p c.rounds.made c.args.self.allowance c.in_ok-holds.tested c.in_ok-made.made p' J N out p'' r)
 
 -- any of them
 
@@ -290,23 +284,27 @@ sheet-joint-requires t c =
     let m = c.decreases in
     (search rules, arm c.requires.1 k (λ x. At x → (q : ℕ) × (k : Command) × (b : Sheet) × At (joint q k b)) (λ q k b at. (q, k, b, at)) c.requires.1)
 
+-- what a kind's own call promises of each of its sheets, it promises of the sheet
+ran-arm : {R : List Row} {end count : ℕ} {t : Sheet} {k : Kind} (p : Points) (before a : ℕ) (out : Result ℕ Halt) (p' : Points) → SheetAt R end count t → (get_or R (end - 1) blank).kind ≡ k → Arm k (λ x. SheetAt R end count x → Ran p x before a out p') → Ran p t before a out p'
+ran-arm {R} {end} {count} p before a out p' at e f = arm at e (λ x. SheetAt R end count x → Ran p x before a out p') f at
+
 pub sheet-returns-in-Set : goal.sheet-returns-in-Set
 sheet-returns-in-Set t c t' at =
-    arm at c.in-Set.is (λ x. SheetAt c.args.self.rows.now c.args.end (length c.args.points.now) x → Ran c.args.points.now x c.args.before c.args.self.allowance c.assign.result c.assign.new.points) c.assign.ensures at
+    ran-arm c.args.points.now c.args.before c.args.self.allowance c.assign.result c.assign.new.points at c.in-Set.is c.assign.ensures
 
 pub sheet-returns-in-If : goal.sheet-returns-in-If
 sheet-returns-in-If t c t' at =
-    arm at c.in-If.is (λ x. SheetAt c.args.self.rows.now c.args.end (length c.args.points.now) x → Ran c.args.points.now x c.args.before c.args.self.allowance c.when.result c.when.new.points) c.when.ensures at
+    ran-arm c.args.points.now c.args.before c.args.self.allowance c.when.result c.when.new.points at c.in-If.is c.when.ensures
 
 pub sheet-returns-in-IfElse : goal.sheet-returns-in-IfElse
 sheet-returns-in-IfElse t c t' at =
-    arm at c.in-IfElse.is (λ x. SheetAt c.args.self.rows.now c.args.end (length c.args.points.now) x → Ran c.args.points.now x c.args.before c.args.self.allowance c.choose.result c.choose.new.points) c.choose.ensures at
+    ran-arm c.args.points.now c.args.before c.args.self.allowance c.choose.result c.choose.new.points at c.in-IfElse.is c.choose.ensures
 
 pub sheet-returns-in-While : goal.sheet-returns-in-While
 sheet-returns-in-While t c t' at =
-    arm at c.in-While.is (λ x. SheetAt c.args.self.rows.now c.args.end (length c.args.points.now) x → Ran c.args.points.now x c.args.before c.args.self.allowance c.repeat.result c.repeat.new.points) c.repeat.ensures at
+    ran-arm c.args.points.now c.args.before c.args.self.allowance c.repeat.result c.repeat.new.points at c.in-While.is c.repeat.ensures
 
 pub sheet-returns-in_default : goal.sheet-returns-in_default
 sheet-returns-in_default t c t' at =
     let k = joint-kind at c.in_default.not-Set c.in_default.not-If c.in_default.not-IfElse c.in_default.not-While in
-    arm at k (λ x. SheetAt c.args.self.rows.now c.args.end (length c.args.points.now) x → Ran c.args.points.now x c.args.before c.args.self.allowance c.joint.result c.joint.new.points) c.joint.ensures at
+    ran-arm c.args.points.now c.args.before c.args.self.allowance c.joint.result c.joint.new.points at k c.joint.ensures
