@@ -1,12 +1,6 @@
-use Rattle.std.proofs.Common.{refl, arith, w32, SFits, rules}
+use Rattle.std.proofs.Common.{arith, w32, SFits, rules}
 use Rattle.banks.proofs.Drafts.{noted-as, write-shows}
 use Rattle.banks.proofs.draft.DraftBank.write.Goals as goal
-
-pub returns-clause-untouched : goal.returns-clause-untouched
-returns-clause-untouched g c = refl
-
-pub returns-clause-same : goal.returns-clause-same
-returns-clause-same g c = refl
 
 pub returns-clause-value : goal.returns-clause-value
 returns-clause-value g c =
