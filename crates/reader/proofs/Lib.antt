@@ -2,6 +2,7 @@ pub mod Writing
 pub mod Nexts
 pub mod Seeing
 pub mod Entering
+pub mod Carrying
 pub mod Summed
 pub mod Bracketing
 pub mod Conditioning

@@ -7,3 +7,4 @@ pub mod Ordering
 pub mod Reading
 pub mod Wholes
 pub mod Laws
+pub mod Holding

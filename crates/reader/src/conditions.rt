@@ -1,119 +1,104 @@
 // Conditions, conjuncts and literals: they call each other, and group from the right.
-ghost use Rattle.std.specs.Prelude.{◌≡◌, ◌≤◌};
-ghost use Rattle.names.specs.Lines.{lines_of};
-ghost use Rattle.scanner.specs.Tokens.{tokens_at};
-ghost use Rattle.scanner.specs.Looks.{clue_ahead};
-ghost use Rattle.reader.specs.Standing.{Stands};
+ghost use Rattle.std.specs.Prelude.{◌≡◌};
 ghost use Rattle.reader.specs.Judging.{ConditionAnswer, ConjunctAnswer, LiteralAnswer, BracketAnswer, ComparisonAnswer};
 
-use crate::progress::Progress;
-use crate::seen::{Refusal, see};
+use crate::reader::Reader;
+use crate::seen::Refusal;
 use grammar::{Link, LiteralStart, Mark};
-use names::NameList;
-use scanner::{Cursor, Position};
-use tables::{Kind, Row};
+use tables::Kind;
 
-impl Progress {
+impl Reader<'_> {
+    ghost use Rattle.reader.specs.Holding.{Reads, held};
+
     #[cycle(bracketed_condition_conjunct_literal)]
-    pub(crate) fn condition(
-        &mut self,
-        names: &NameList,
-        text: &[u8],
-        rows: &mut [Row],
-    ) -> Result<(), Refusal>
-        requires { Stands (lines_of names.now.text.now) text.now self.old }
-        ensures { ConditionAnswer (lines_of names.now.text.now) text.now self.old rows.old self.new rows.new result }
+    pub(crate) fn condition(&mut self) -> Result<(), Refusal>
+        ensures reads { Reads ConditionAnswer self.old self.new result }
+        ensures same { held self.new ≡ held self.old }
     {
-        let first = self.count;
-        self.conjunct(names, text, rows)?;
-        let seen = see(names, text, self.position.at);
+        let first = self.progress.count;
+        self.conjunct()?;
+        let seen = self.see();
         if let Link::Or = seen.lexeme.link() {
-            self.pass(seen);
-            self.condition(names, text, rows)?;
-            self.tell(rows, Kind::Or, 0, first, seen.place);
+            self.progress.pass(seen);
+            self.condition()?;
+            self.tell(Kind::Or, 0, first, seen.place);
         }
         Ok(())
     }
 
     #[cycle(bracketed_condition_conjunct_literal)]
-    fn conjunct(&mut self, names: &NameList, text: &[u8], rows: &mut [Row]) -> Result<(), Refusal>
-        requires { Stands (lines_of names.now.text.now) text.now self.old }
-        ensures { ConjunctAnswer (lines_of names.now.text.now) text.now self.old rows.old self.new rows.new result }
+    fn conjunct(&mut self) -> Result<(), Refusal>
+        ensures reads { Reads ConjunctAnswer self.old self.new result }
+        ensures same { held self.new ≡ held self.old }
     {
-        let first = self.count;
-        self.literal(names, text, rows)?;
-        let seen = see(names, text, self.position.at);
+        let first = self.progress.count;
+        self.literal()?;
+        let seen = self.see();
         if let Link::And = seen.lexeme.link() {
-            self.pass(seen);
-            self.conjunct(names, text, rows)?;
-            self.tell(rows, Kind::And, 0, first, seen.place);
+            self.progress.pass(seen);
+            self.conjunct()?;
+            self.tell(Kind::And, 0, first, seen.place);
         }
         Ok(())
     }
 
     #[cycle(bracketed_condition_conjunct_literal)]
-    fn literal(&mut self, names: &NameList, text: &[u8], rows: &mut [Row]) -> Result<(), Refusal>
-        requires { Stands (lines_of names.now.text.now) text.now self.old }
-        ensures { LiteralAnswer (lines_of names.now.text.now) text.now self.old rows.old self.new rows.new result }
+    fn literal(&mut self) -> Result<(), Refusal>
+        ensures reads { Reads LiteralAnswer self.old self.new result }
+        ensures same { held self.new ≡ held self.old }
     {
-        let first = self.count;
-        let seen = see(names, text, self.position.at);
+        let first = self.progress.count;
+        let seen = self.see();
         match seen.lexeme.literal_start() {
             LiteralStart::Truth(value) => {
-                self.leaf(rows, Kind::Truth, i32::from(value), seen);
+                self.leaf(Kind::Truth, i32::from(value), seen);
                 Ok(())
             }
             LiteralStart::Not => {
-                self.pass(seen);
-                self.literal(names, text, rows)?;
-                self.tell(rows, Kind::Not, 0, first, seen.place);
+                self.progress.pass(seen);
+                self.literal()?;
+                self.tell(Kind::Not, 0, first, seen.place);
                 Ok(())
             }
             LiteralStart::Bracket => {
-                if opens_condition(text, seen.end) {
-                    self.bracketed(names, text, rows)
+                if self.opens_condition(seen) {
+                    self.bracketed()
                 } else {
-                    self.comparison(names, text, rows)
+                    self.comparison()
                 }
             }
-            LiteralStart::Sum => self.comparison(names, text, rows),
+            LiteralStart::Sum => self.comparison(),
         }
     }
 
     // A condition in brackets: behind `if` and `while`, and as a literal.
     #[cycle(bracketed_condition_conjunct_literal)]
-    pub(crate) fn bracketed(
-        &mut self,
-        names: &NameList,
-        text: &[u8],
-        rows: &mut [Row],
-    ) -> Result<(), Refusal>
-        requires { Stands (lines_of names.now.text.now) text.now self.old }
-        ensures { BracketAnswer (lines_of names.now.text.now) text.now self.old rows.old self.new rows.new result }
+    pub(crate) fn bracketed(&mut self) -> Result<(), Refusal>
+        ensures reads { Reads BracketAnswer self.old self.new result }
+        ensures same { held self.new ≡ held self.old }
     {
-        let seen = self.expect(names, text, Mark::Open)?;
-        self.enter(seen)?;
-        self.condition(names, text, rows)?;
-        let _ = self.expect(names, text, Mark::Close)?;
-        self.depth -= 1;
+        let seen = self.expect(Mark::Open)?;
+        self.progress.enter(seen)?;
+        self.condition()?;
+        let _ = self.expect(Mark::Close)?;
+        self.progress.depth -= 1;
         Ok(())
     }
 
     // Two sums with a comparison between.
-    fn comparison(&mut self, names: &NameList, text: &[u8], rows: &mut [Row]) -> Result<(), Refusal>
-        requires { Stands (lines_of names.now.text.now) text.now self.old }
-        ensures { ComparisonAnswer (lines_of names.now.text.now) text.now self.old rows.old self.new rows.new result }
+    fn comparison(&mut self) -> Result<(), Refusal>
+        ensures reads { Reads ComparisonAnswer self.old self.new result }
+        ensures same { held self.new ≡ held self.old }
     {
-        let first = self.count;
-        self.sum(names, text, rows)?;
-        let seen = see(names, text, self.position.at);
+        let first = self.progress.count;
+        self.sum()?;
+        let seen = self.see();
         let Some(comparison) = seen.lexeme.comparison() else {
             return Err(seen.refusal());
         };
-        self.pass(seen);
-        self.sum(names, text, rows)?;
+        self.progress.pass(seen);
+        self.sum()?;
         self.tell(
-            rows,
             Kind::Compare,
             i32::from(comparison.number()),
             first,
@@ -121,15 +106,4 @@ impl Progress {
         );
         Ok(())
     }
-}
-
-// Whether a `(` that ends here opens a condition.
-fn opens_condition(text: &[u8], at: usize) -> bool
-    ensures { result ≡ clue_ahead text.now (tokens_at text.now at) 0 }
-{
-    let mut cursor = Cursor {
-        text,
-        position: Position { at },
-    };
-    cursor.opens_condition()
 }

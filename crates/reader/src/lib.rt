@@ -4,6 +4,7 @@
 mod commands;
 mod conditions;
 mod progress;
+mod reader;
 mod seen;
 mod sheet;
 mod sums;

@@ -1,12 +1,12 @@
 // The next token, as the grammar sees it.
-ghost use Rattle.std.specs.Prelude.{◌≡◌};
-ghost use Rattle.names.specs.Lines.{lines_of};
-ghost use Rattle.reader.specs.Ahead.{HereIs, refused_at};
+ghost use Rattle.std.specs.Prelude.{◌≡◌, true, false};
+ghost use Rattle.grammar.specs.Choices.{mark_of};
+ghost use Rattle.reader.specs.Ahead.{refused_at};
+ghost use Rattle.reader.specs.Progressing.{if_mark};
+ghost use Rattle.reader.specs.Reading.{reader_fault};
 
-use faults::ReaderCause;
-use grammar::{Lexeme, lexeme_of};
-use names::NameList;
-use scanner::{Cursor, Position};
+use faults::{Fault, Layer, ReaderCause};
+use grammar::{Lexeme, Mark};
 
 #[derive(Clone, Copy)]
 pub(crate) struct Seen {
@@ -23,19 +23,20 @@ pub(crate) struct Refusal {
     pub(crate) place: usize,
 }
 
-// The cursor holds the sheet and the position, and tells the token there.
-pub(crate) fn see(names: &NameList, text: &[u8], at: usize) -> Seen
-    ensures { HereIs (lines_of names.now.text.now) text.now at result }
+impl From<Refusal> for Fault {
+    ghost from_gives = { λ r f. f ≡ reader_fault r.cause r.place };
+
+    fn from(refusal: Refusal) -> Fault {
+        reader_fault(refusal.cause, refusal.place)
+    }
+}
+
+pub(crate) fn reader_fault(cause: ReaderCause, figure: usize) -> Fault
+    ensures { result ≡ reader_fault cause figure }
 {
-    let cursor = Cursor {
-        text,
-        position: Position { at },
-    };
-    let token = cursor.peek();
-    Seen {
-        lexeme: lexeme_of(names, text, token),
-        place: token.start,
-        end: token.end,
+    Fault {
+        layer: Layer::Reader(cause),
+        figure: figure as u64,
     }
 }
 
@@ -47,6 +48,21 @@ impl Seen {
         Refusal {
             cause: self.lexeme.refusal(),
             place: self.place,
+        }
+    }
+
+    // Whether it is the one sign or word that is wanted.
+    pub(crate) fn is(self, wanted: Mark) -> bool
+        ensures { result ≡ if_mark wanted (mark_of self.lexeme) true false }
+    {
+        match (wanted, self.lexeme.mark()) {
+            (Mark::Else, Mark::Else)
+            | (Mark::Open, Mark::Open)
+            | (Mark::Close, Mark::Close)
+            | (Mark::OpenBlock, Mark::OpenBlock)
+            | (Mark::Semicolon, Mark::Semicolon)
+            | (Mark::Becomes, Mark::Becomes) => true,
+            _ => false,
         }
     }
 }

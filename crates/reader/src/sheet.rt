@@ -4,11 +4,12 @@ ghost use Rattle.names.specs.Lines.{lines_of};
 ghost use Rattle.grammar.specs.Lexemes.{lexemes};
 ghost use Rattle.grammar.specs.Machine.{run, start};
 ghost use Rattle.reader.specs.Laws.{ReadsExactly};
-ghost use Rattle.reader.specs.Reading.{reading, reader_fault, blanks};
+ghost use Rattle.reader.specs.Reading.{reading, blanks};
 ghost use Rattle.reader.specs.Wholes.{UnderAnswer, AllAnswer};
 
 use crate::progress::Progress;
-use crate::seen::{Refusal, see};
+use crate::reader::Reader;
+use crate::seen::{Refusal, reader_fault};
 use faults::{Fault, Layer, ReaderCause, TableCause};
 use grammar::CommandStart;
 use names::NameList;
@@ -24,7 +25,7 @@ pub fn read(list: &[u8], sheet: &[u8], rows: &mut [Row]) -> Result<usize, Fault>
 {
     let names = NameList::read(list)?;
     clear(rows);
-    let needed = match read_under(&names, sheet, rows) {
+    let needed = match read_under(names, sheet, rows) {
         Ok(needed) => needed,
         Err(fault) => {
             clear(rows);
@@ -42,51 +43,42 @@ pub fn read(list: &[u8], sheet: &[u8], rows: &mut [Row]) -> Result<usize, Fault>
 }
 
 // How many rows the sheet has; as many of them as there are slots for are written.
-fn read_under(names: &NameList, sheet: &[u8], rows: &mut [Row]) -> Result<usize, Fault>
-    requires { length (lines_of names.now.text.now) ≤ 64 }
-    ensures { UnderAnswer (lines_of names.now.text.now) sheet.now rows.old rows.new result }
+fn read_under(names: NameList, sheet: &[u8], rows: &mut [Row]) -> Result<usize, Fault>
+    requires { length (lines_of names.text.now) ≤ 64 }
+    ensures { UnderAnswer (lines_of names.entry.text.now) sheet.now rows.old rows.new result }
 {
     if sheet.len() > MOST_BYTES {
         return Err(reader_fault(ReaderCause::SheetTooLong, MOST_BYTES));
     }
-    match read_all(names, sheet, rows) {
-        Ok(needed) => Ok(needed),
-        Err(refusal) => Err(reader_fault(refusal.cause, refusal.place)),
-    }
+    Ok(read_all(names, sheet, rows)?)
 }
 
 // A sheet, and then the end of the text.
-fn read_all(names: &NameList, sheet: &[u8], rows: &mut [Row]) -> Result<usize, Refusal>
-    requires listed { length (lines_of names.now.text.now) ≤ 64 }
+fn read_all(names: NameList, sheet: &[u8], rows: &mut [Row]) -> Result<usize, Refusal>
+    requires listed { length (lines_of names.text.now) ≤ 64 }
     requires short { length sheet.now ≤ 8192 }
-    ensures { AllAnswer (run (lexemes (lines_of names.now.text.now) sheet.now) 0 start) rows.old rows.new result }
+    ensures { AllAnswer (run (lexemes (lines_of names.entry.text.now) sheet.now) 0 start) rows.old rows.new result }
 {
-    let mut progress = Progress {
-        position: Position { at: 0 },
-        count: 0,
-        depth: 0,
+    let mut reader = Reader {
+        names,
+        text: sheet,
+        rows,
+        progress: Progress {
+            position: Position { at: 0 },
+            count: 0,
+            depth: 0,
+        },
     };
-    progress.sheet(names, sheet, rows)?;
-    let end = see(names, sheet, progress.position.at);
+    reader.sheet()?;
+    let end = reader.see();
     let CommandStart::End = end.lexeme.command_start() else {
         return Err(end.refusal());
     };
-    Ok(progress.count)
-}
-
-fn reader_fault(cause: ReaderCause, figure: usize) -> Fault
-    ensures { result ≡ reader_fault cause figure }
-{
-    Fault {
-        layer: Layer::Reader(cause),
-        figure: figure as u64,
-    }
+    Ok(reader.progress.count)
 }
 
 fn clear(rows: &mut [Row])
     ensures { rows.new ≡ blanks rows.old }
 {
-    for row in rows.iter_mut() {
-        *row = Row::blank();
-    }
+    rows.fill(Row::blank());
 }
