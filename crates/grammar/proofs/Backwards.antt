@@ -1,6 +1,7 @@
 -- Which lexeme a choice came from: the tables of choices, read backwards. Where nothing of the place may stand, nothing is
--- said.
-use Rattle.std.proofs.Common.{◌≡◌, Some, None, Option, refl}
+-- said. What a table answered tells which lexeme was taken.
+use Rattle.std.proofs.Common.{◌≡◌, Some, None, Ok, Err, Option, Result, refl, subst}
+use Rattle.faults.specs.declared.causes.ReaderCause.{ReaderCause}
 use Rattle.arith.specs.declared.comparison.Comparison.{Comparison}
 use Rattle.grammar.specs.declared.lexeme.Lexeme.{Lexeme}
 use Rattle.grammar.specs.declared.lexeme.Lexeme.TheVariants as lexeme
@@ -18,11 +19,11 @@ use Rattle.grammar.specs.declared.choice.Mark.{Mark}
 use Rattle.grammar.specs.declared.choice.Mark.TheVariants as mark
 use Rattle.grammar.specs.Choices.{operand_of, join_of, comparison_of, literal_of, link_of, command_of, mark_of}
 
-abbrev pub Operands : Operand → Lexeme → Type 0
-Operands (operand.Number v) l = l ≡ lexeme.Number v
-Operands (operand.Name x) l = l ≡ lexeme.Name x
-Operands operand.Bracket l = l ≡ lexeme.Open
-Operands (operand.Neither c) l = Unit {0}
+abbrev pub Operands : Result Operand ReaderCause → Lexeme → Type 0
+Operands (Ok (operand.Number v)) l = l ≡ lexeme.Number v
+Operands (Ok (operand.Name x)) l = l ≡ lexeme.Name x
+Operands (Ok operand.Bracket) l = l ≡ lexeme.Open
+Operands (Err c) l = Unit {0}
 
 pub operand-of : (l : Lexeme) → Operands (operand_of l) l
 operand-of (lexeme.Number v) = refl
@@ -48,10 +49,13 @@ operand-of lexeme.Becomes = tt
 operand-of lexeme.End = tt
 operand-of lexeme.Stray = tt
 
-abbrev pub Joins : Join → Lexeme → Type 0
-Joins (join.Additive o) l = l ≡ lexeme.Additive o
-Joins (join.Multiplicative o) l = l ≡ lexeme.Multiplicative o
-Joins join.Nothing l = Unit {0}
+pub operand-back : (l : Lexeme) {x : Result Operand ReaderCause} → operand_of l ≡ x → Operands x l
+operand-back l e = subst (λ (x : Result Operand ReaderCause). Operands x l) e (operand-of l)
+
+abbrev pub Joins : Option Join → Lexeme → Type 0
+Joins (Some (join.Additive o)) l = l ≡ lexeme.Additive o
+Joins (Some (join.Multiplicative o)) l = l ≡ lexeme.Multiplicative o
+Joins None l = Unit {0}
 
 pub join-of : (l : Lexeme) → Joins (join_of l) l
 join-of (lexeme.Number v) = tt
@@ -76,6 +80,9 @@ join-of lexeme.Semicolon = tt
 join-of lexeme.Becomes = tt
 join-of lexeme.End = tt
 join-of lexeme.Stray = tt
+
+pub join-back : (l : Lexeme) {x : Option Join} → join_of l ≡ x → Joins x l
+join-back l e = subst (λ (x : Option Join). Joins x l) e (join-of l)
 
 abbrev pub Compares : Option Comparison → Lexeme → Type 0
 Compares (Some k) l = l ≡ lexeme.Compare k
@@ -104,6 +111,9 @@ comparison-of lexeme.Semicolon = tt
 comparison-of lexeme.Becomes = tt
 comparison-of lexeme.End = tt
 comparison-of lexeme.Stray = tt
+
+pub comparison-back : (l : Lexeme) {x : Option Comparison} → comparison_of l ≡ x → Compares x l
+comparison-back l e = subst (λ (x : Option Comparison). Compares x l) e (comparison-of l)
 
 abbrev pub Starts : LiteralStart → Lexeme → Type 0
 Starts (literal.Truth b) l = l ≡ lexeme.Truth b
@@ -135,10 +145,13 @@ literal-of lexeme.Becomes = tt
 literal-of lexeme.End = tt
 literal-of lexeme.Stray = tt
 
-abbrev pub Links : Link → Lexeme → Type 0
-Links link.And l = l ≡ lexeme.And
-Links link.Or l = l ≡ lexeme.Or
-Links link.Nothing l = Unit {0}
+pub literal-back : (l : Lexeme) {x : LiteralStart} → literal_of l ≡ x → Starts x l
+literal-back l e = subst (λ (x : LiteralStart). Starts x l) e (literal-of l)
+
+abbrev pub Links : Option Link → Lexeme → Type 0
+Links (Some link.And) l = l ≡ lexeme.And
+Links (Some link.Or) l = l ≡ lexeme.Or
+Links None l = Unit {0}
 
 pub link-of : (l : Lexeme) → Links (link_of l) l
 link-of (lexeme.Number v) = tt
@@ -164,13 +177,16 @@ link-of lexeme.Becomes = tt
 link-of lexeme.End = tt
 link-of lexeme.Stray = tt
 
-abbrev pub Commands : CommandStart → Lexeme → Type 0
-Commands (command.Set x) l = l ≡ lexeme.Name x
-Commands command.If l = l ≡ lexeme.If
-Commands command.While l = l ≡ lexeme.While
-Commands command.CloseBlock l = l ≡ lexeme.CloseBlock
-Commands command.End l = l ≡ lexeme.End
-Commands (command.Neither c) l = Unit {0}
+pub link-back : (l : Lexeme) {x : Option Link} → link_of l ≡ x → Links x l
+link-back l e = subst (λ (x : Option Link). Links x l) e (link-of l)
+
+abbrev pub Commands : Result CommandStart ReaderCause → Lexeme → Type 0
+Commands (Ok (command.Set x)) l = l ≡ lexeme.Name x
+Commands (Ok command.If) l = l ≡ lexeme.If
+Commands (Ok command.While) l = l ≡ lexeme.While
+Commands (Ok command.CloseBlock) l = l ≡ lexeme.CloseBlock
+Commands (Ok command.End) l = l ≡ lexeme.End
+Commands (Err c) l = Unit {0}
 
 pub command-of : (l : Lexeme) → Commands (command_of l) l
 command-of (lexeme.Number v) = tt
@@ -196,14 +212,17 @@ command-of lexeme.Becomes = tt
 command-of lexeme.End = refl
 command-of lexeme.Stray = tt
 
-abbrev pub Marks : Mark → Lexeme → Type 0
-Marks mark.Else l = l ≡ lexeme.Else
-Marks mark.Open l = l ≡ lexeme.Open
-Marks mark.Close l = l ≡ lexeme.Close
-Marks mark.OpenBlock l = l ≡ lexeme.OpenBlock
-Marks mark.Semicolon l = l ≡ lexeme.Semicolon
-Marks mark.Becomes l = l ≡ lexeme.Becomes
-Marks mark.Other l = Unit {0}
+pub command-back : (l : Lexeme) {x : Result CommandStart ReaderCause} → command_of l ≡ x → Commands x l
+command-back l e = subst (λ (x : Result CommandStart ReaderCause). Commands x l) e (command-of l)
+
+abbrev pub Marks : Option Mark → Lexeme → Type 0
+Marks (Some mark.Else) l = l ≡ lexeme.Else
+Marks (Some mark.Open) l = l ≡ lexeme.Open
+Marks (Some mark.Close) l = l ≡ lexeme.Close
+Marks (Some mark.OpenBlock) l = l ≡ lexeme.OpenBlock
+Marks (Some mark.Semicolon) l = l ≡ lexeme.Semicolon
+Marks (Some mark.Becomes) l = l ≡ lexeme.Becomes
+Marks None l = Unit {0}
 
 pub mark-of : (l : Lexeme) → Marks (mark_of l) l
 mark-of (lexeme.Number v) = tt
@@ -228,3 +247,6 @@ mark-of lexeme.Semicolon = refl
 mark-of lexeme.Becomes = refl
 mark-of lexeme.End = tt
 mark-of lexeme.Stray = tt
+
+pub mark-back : (l : Lexeme) {x : Option Mark} → mark_of l ≡ x → Marks x l
+mark-back l e = subst (λ (x : Option Mark). Marks x l) e (mark-of l)

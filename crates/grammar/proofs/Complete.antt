@@ -1,12 +1,12 @@
 -- What the grammar derives, the machine reads, and as its tree. It is shown of the machine without its limit, so that no
 -- sheet has two trees, however deep it nests.
-use Rattle.std.proofs.Common.{◌≡◌, ℕ, suc, Bool, true, false, cond, List, [], ◌∷◌, ◌++◌, sym, refl, ap, ◌∙◌, subst, append_assoc}
+use Rattle.std.proofs.Common.{◌≡◌, ℕ, suc, Bool, true, false, cond, List, [], ◌∷◌, ◌++◌, Some, None, Option, sym, refl, ap, ◌∙◌, subst, append_assoc}
 use Rattle.arith.specs.declared.comparison.Comparison.{Comparison}
 use Rattle.tables.specs.Trees.{Sum, Condition, Command, Sheet, compare, both, either, set, when, choose, while}
 use Rattle.grammar.specs.declared.lexeme.Lexeme.{Lexeme}
 use Rattle.grammar.specs.declared.lexeme.Lexeme.TheVariants as lexeme
 use Rattle.grammar.specs.declared.choice.Mark.{Mark}
-use Rattle.grammar.specs.declared.choice.Mark.TheVariants.{Else, Open, Close, OpenBlock, Semicolon, Becomes, Other}
+use Rattle.grammar.specs.declared.choice.Mark.TheVariants.{Else, Open, Close, OpenBlock, Semicolon, Becomes}
 use Rattle.grammar.specs.Choices.{mark_of}
 use Rattle.grammar.specs.Lexemes.{Tok, tok}
 use Rattle.grammar.specs.Grammar.{SumOf, ProdOf, FactorOf, ConditionOf, ConjunctOf, LiteralOf, CommandOf, BlockOf, SheetOf}
@@ -174,27 +174,27 @@ mutual
       ∙ conditions g (pending p c ∷ ors) u q rest
 
 -- what follows a command is there, and no else
-abbrev NotElse : Mark → Type 0
-NotElse Else = ⊥
-NotElse Open = Unit {0}
-NotElse Close = Unit {0}
-NotElse OpenBlock = Unit {0}
-NotElse Semicolon = Unit {0}
-NotElse Becomes = Unit {0}
-NotElse Other = Unit {0}
+abbrev NotElse : Option Mark → Type 0
+NotElse (Some Else) = ⊥
+NotElse (Some Open) = Unit {0}
+NotElse (Some Close) = Unit {0}
+NotElse (Some OpenBlock) = Unit {0}
+NotElse (Some Semicolon) = Unit {0}
+NotElse (Some Becomes) = Unit {0}
+NotElse None = Unit {0}
 
 abbrev NoElse : List Tok → Type 0
 NoElse [] = ⊥
 NoElse (x ∷ xs) = NotElse (mark_of x.lexeme)
 
-not-else : (m : Mark) → NotElse m → (s t : State) → if_else m s t ≡ t
-not-else Else n s t = absurd n
-not-else Open n s t = refl
-not-else Close n s t = refl
-not-else OpenBlock n s t = refl
-not-else Semicolon n s t = refl
-not-else Becomes n s t = refl
-not-else Other n s t = refl
+not-else : (m : Option Mark) → NotElse m → (s t : State) → if_else m s t ≡ t
+not-else (Some Else) n s t = absurd n
+not-else (Some Open) n s t = refl
+not-else (Some Close) n s t = refl
+not-else (Some OpenBlock) n s t = refl
+not-else (Some Semicolon) n s t = refl
+not-else (Some Becomes) n s t = refl
+not-else None n s t = refl
 
 command-first : {us : List Tok} {c : Command} → CommandOf us c → (rest : List Tok) → NoElse (us ++ rest)
 command-first (CommandOf.set p x q r f) rest = tt

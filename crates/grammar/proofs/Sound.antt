@@ -1,6 +1,6 @@
 -- What the machine reads, the grammar derives, and with at most 32 brackets open: every step that is not refused keeps
 -- what `Stands` says.
-use Rattle.std.proofs.Common.{◌≡◌, ℕ, ◌<◌, ◌≤◌, Bool, true, false, cond, ltb, List, [], ◌∷◌, ◌++◌, Some, None, Option, sym, refl, ap, ◌∙◌, subst, append_assoc, append-nil, arith}
+use Rattle.std.proofs.Common.{◌≡◌, ℕ, ◌<◌, ◌≤◌, Bool, true, false, cond, ltb, List, [], ◌∷◌, ◌++◌, Some, None, Ok, Err, Option, Result, sym, refl, ap, ◌∙◌, subst, append_assoc, append-nil, arith}
 use native.Mathlib.Nat.{pred-le}
 use Rattle.std.proofs.lemmas.Bool.{cond_both, ltb-true}
 use Rattle.faults.specs.declared.causes.ReaderCause.{ReaderCause}
@@ -33,59 +33,59 @@ use Rattle.grammar.proofs.Stands.{LeftSum, LeftProd, whole_sum, whole-prod, Nots
 
 -- by the one sign or word that may stand
 
-by-else : (P : State → Type 0) (m : Mark) {l : Lexeme} → Marks m l → {s t : State} → (l ≡ lexeme.Else → P s) → P t → P (if_else m s t)
-by-else P mark.Else e f g = f e
-by-else P mark.Open e f g = g
-by-else P mark.Close e f g = g
-by-else P mark.OpenBlock e f g = g
-by-else P mark.Semicolon e f g = g
-by-else P mark.Becomes e f g = g
-by-else P mark.Other e f g = g
+by-else : (P : State → Type 0) (m : Option Mark) {l : Lexeme} → Marks m l → {s t : State} → (l ≡ lexeme.Else → P s) → P t → P (if_else m s t)
+by-else P (Some mark.Else) e f g = f e
+by-else P (Some mark.Open) e f g = g
+by-else P (Some mark.Close) e f g = g
+by-else P (Some mark.OpenBlock) e f g = g
+by-else P (Some mark.Semicolon) e f g = g
+by-else P (Some mark.Becomes) e f g = g
+by-else P None e f g = g
 
-by-open : (P : State → Type 0) (m : Mark) {l : Lexeme} → Marks m l → {s t : State} → (l ≡ lexeme.Open → P s) → P t → P (if_open m s t)
-by-open P mark.Else e f g = g
-by-open P mark.Open e f g = f e
-by-open P mark.Close e f g = g
-by-open P mark.OpenBlock e f g = g
-by-open P mark.Semicolon e f g = g
-by-open P mark.Becomes e f g = g
-by-open P mark.Other e f g = g
+by-open : (P : State → Type 0) (m : Option Mark) {l : Lexeme} → Marks m l → {s t : State} → (l ≡ lexeme.Open → P s) → P t → P (if_open m s t)
+by-open P (Some mark.Else) e f g = g
+by-open P (Some mark.Open) e f g = f e
+by-open P (Some mark.Close) e f g = g
+by-open P (Some mark.OpenBlock) e f g = g
+by-open P (Some mark.Semicolon) e f g = g
+by-open P (Some mark.Becomes) e f g = g
+by-open P None e f g = g
 
-by-close : (P : State → Type 0) (m : Mark) {l : Lexeme} → Marks m l → {s t : State} → (l ≡ lexeme.Close → P s) → P t → P (if_close m s t)
-by-close P mark.Else e f g = g
-by-close P mark.Open e f g = g
-by-close P mark.Close e f g = f e
-by-close P mark.OpenBlock e f g = g
-by-close P mark.Semicolon e f g = g
-by-close P mark.Becomes e f g = g
-by-close P mark.Other e f g = g
+by-close : (P : State → Type 0) (m : Option Mark) {l : Lexeme} → Marks m l → {s t : State} → (l ≡ lexeme.Close → P s) → P t → P (if_close m s t)
+by-close P (Some mark.Else) e f g = g
+by-close P (Some mark.Open) e f g = g
+by-close P (Some mark.Close) e f g = f e
+by-close P (Some mark.OpenBlock) e f g = g
+by-close P (Some mark.Semicolon) e f g = g
+by-close P (Some mark.Becomes) e f g = g
+by-close P None e f g = g
 
-by-open-block : (P : State → Type 0) (m : Mark) {l : Lexeme} → Marks m l → {s t : State} → (l ≡ lexeme.OpenBlock → P s) → P t → P (if_open_block m s t)
-by-open-block P mark.Else e f g = g
-by-open-block P mark.Open e f g = g
-by-open-block P mark.Close e f g = g
-by-open-block P mark.OpenBlock e f g = f e
-by-open-block P mark.Semicolon e f g = g
-by-open-block P mark.Becomes e f g = g
-by-open-block P mark.Other e f g = g
+by-open-block : (P : State → Type 0) (m : Option Mark) {l : Lexeme} → Marks m l → {s t : State} → (l ≡ lexeme.OpenBlock → P s) → P t → P (if_open_block m s t)
+by-open-block P (Some mark.Else) e f g = g
+by-open-block P (Some mark.Open) e f g = g
+by-open-block P (Some mark.Close) e f g = g
+by-open-block P (Some mark.OpenBlock) e f g = f e
+by-open-block P (Some mark.Semicolon) e f g = g
+by-open-block P (Some mark.Becomes) e f g = g
+by-open-block P None e f g = g
 
-by-semicolon : (P : State → Type 0) (m : Mark) {l : Lexeme} → Marks m l → {s t : State} → (l ≡ lexeme.Semicolon → P s) → P t → P (if_semicolon m s t)
-by-semicolon P mark.Else e f g = g
-by-semicolon P mark.Open e f g = g
-by-semicolon P mark.Close e f g = g
-by-semicolon P mark.OpenBlock e f g = g
-by-semicolon P mark.Semicolon e f g = f e
-by-semicolon P mark.Becomes e f g = g
-by-semicolon P mark.Other e f g = g
+by-semicolon : (P : State → Type 0) (m : Option Mark) {l : Lexeme} → Marks m l → {s t : State} → (l ≡ lexeme.Semicolon → P s) → P t → P (if_semicolon m s t)
+by-semicolon P (Some mark.Else) e f g = g
+by-semicolon P (Some mark.Open) e f g = g
+by-semicolon P (Some mark.Close) e f g = g
+by-semicolon P (Some mark.OpenBlock) e f g = g
+by-semicolon P (Some mark.Semicolon) e f g = f e
+by-semicolon P (Some mark.Becomes) e f g = g
+by-semicolon P None e f g = g
 
-by-becomes : (P : State → Type 0) (m : Mark) {l : Lexeme} → Marks m l → {s t : State} → (l ≡ lexeme.Becomes → P s) → P t → P (if_becomes m s t)
-by-becomes P mark.Else e f g = g
-by-becomes P mark.Open e f g = g
-by-becomes P mark.Close e f g = g
-by-becomes P mark.OpenBlock e f g = g
-by-becomes P mark.Semicolon e f g = g
-by-becomes P mark.Becomes e f g = f e
-by-becomes P mark.Other e f g = g
+by-becomes : (P : State → Type 0) (m : Option Mark) {l : Lexeme} → Marks m l → {s t : State} → (l ≡ lexeme.Becomes → P s) → P t → P (if_becomes m s t)
+by-becomes P (Some mark.Else) e f g = g
+by-becomes P (Some mark.Open) e f g = g
+by-becomes P (Some mark.Close) e f g = g
+by-becomes P (Some mark.OpenBlock) e f g = g
+by-becomes P (Some mark.Semicolon) e f g = g
+by-becomes P (Some mark.Becomes) e f g = f e
+by-becomes P None e f g = g
 
 module _ (us : List Tok) (p : ℕ) (l : Lexeme) where
   -- a bracket goes on, or there is no room
@@ -96,8 +96,8 @@ module _ (us : List Tok) (p : ℕ) (l : Lexeme) where
   with-token {k} e h = ap (λ (l : Lexeme). us ++ tok p l ∷ []) e ∙ ap (λ (l : List Tok). l ++ tok p k ∷ []) h
 
   -- a token where a factor is wanted
-  wanting : (d : ℕ) (o : Operand) → Operands o l → {s m : Left} {k : Use} → Wanting us s m k → After us (tok p l) (wanted d p o s m k)
-  wanting d (operand.Number v) e r = record {
+  wanting : (d : ℕ) (o : Result Operand ReaderCause) → Operands o l → {s m : Left} {k : Use} → Wanting us s m k → After us (tok p l) (wanted d p o s m k)
+  wanting d (Ok (operand.Number v)) e r = record {
     a = r.a;
     b = r.b;
     c = _;
@@ -106,7 +106,7 @@ module _ (us : List Tok) (p : ℕ) (l : Lexeme) where
     prod = whole-prod r.prod (FactorOf.number p v);
     is = with-token e r.is ∙ simp append_assoc;
   }
-  wanting d (operand.Name x) e r = record {
+  wanting d (Ok (operand.Name x)) e r = record {
     a = r.a;
     b = r.b;
     c = _;
@@ -115,7 +115,7 @@ module _ (us : List Tok) (p : ℕ) (l : Lexeme) where
     prod = whole-prod r.prod (FactorOf.name p x);
     is = with-token e r.is ∙ simp append_assoc;
   }
-  wanting d operand.Bracket e {s} {m} {k} r = roomy d (want none none (within s m k)) (record {
+  wanting d (Ok operand.Bracket) e {s} {m} {k} r = roomy d (want none none (within s m k)) (record {
     a = _;
     b = [];
     c = [];
@@ -124,7 +124,7 @@ module _ (us : List Tok) (p : ℕ) (l : Lexeme) where
     prod = LeftProd.nothing;
     is = with-token e r.is ∙ simp (append_assoc, append-nil);
   })
-  wanting d (operand.Neither c) e r = tt
+  wanting d (Err c) e r = tt
 
   -- the ) of a condition
   shutting : {a b : List Tok} {u : Purpose} {c : Condition} → l ≡ lexeme.Close → For a u → ConditionOf b c → us ≡ a ++ b → After us (tok p l) (shut c u)
@@ -151,8 +151,8 @@ module _ (us : List Tok) (p : ℕ) (l : Lexeme) where
   }
 
   -- a token behind a literal
-  linking : (j : Link) → Links j l → {c : Condition} {ands ors : List Pending} {u : Purpose} → Had us c ands ors u → After us (tok p l) (linked j c ands ors u (tok p l))
-  linking link.And e r = record {
+  linking : (j : Option Link) → Links j l → {c : Condition} {ands ors : List Pending} {u : Purpose} → Had us c ands ors u → After us (tok p l) (linked j c ands ors u (tok p l))
+  linking (Some link.And) e r = record {
     a = r.a;
     b = r.b;
     c = _;
@@ -163,7 +163,7 @@ module _ (us : List Tok) (p : ℕ) (l : Lexeme) where
     not = Nots.nothing;
     is = with-token e r.is ∙ simp (append_assoc, append-nil);
   }
-  linking link.Or e r = record {
+  linking (Some link.Or) e r = record {
     a = r.a;
     b = _;
     c = [];
@@ -174,7 +174,7 @@ module _ (us : List Tok) (p : ℕ) (l : Lexeme) where
     not = Nots.nothing;
     is = with-token e r.is ∙ simp (append_assoc, append-nil);
   }
-  linking link.Nothing e r =
+  linking None e r =
       by-close (After us (tok p l)) (mark_of l) (mark-of l) (λ h. shutting h r.around (whole-condition r.or (ConditionOf.conjunct (whole-conjunct r.and (ConjunctOf.literal r.read)))) r.is) tt
 
   -- a token behind a whole sum
@@ -222,8 +222,8 @@ module _ (us : List Tok) (p : ℕ) (l : Lexeme) where
   }) tt
 
   -- a token behind a factor
-  having : (j : Join) → Joins j l → {s : Left} {e : Sum} {k : Use} → Having us s e k → After us (tok p l) (continued j s e k (tok p l))
-  having (join.Additive o) e r = record {
+  having : (j : Option Join) → Joins j l → {s : Left} {e : Sum} {k : Use} → Having us s e k → After us (tok p l) (continued j s e k (tok p l))
+  having (Some (join.Additive o)) e r = record {
     a = r.a;
     b = _;
     c = [];
@@ -232,7 +232,7 @@ module _ (us : List Tok) (p : ℕ) (l : Lexeme) where
     prod = LeftProd.nothing;
     is = with-token e r.is ∙ simp (append_assoc, append-nil);
   }
-  having (join.Multiplicative o) e r = record {
+  having (Some (join.Multiplicative o)) e r = record {
     a = r.a;
     b = r.b;
     c = _;
@@ -241,7 +241,7 @@ module _ (us : List Tok) (p : ℕ) (l : Lexeme) where
     prod = LeftProd.before p o r.prod;
     is = with-token e r.is ∙ simp append_assoc;
   }
-  having join.Nothing e r = ending r.around (whole_sum r.sum r.prod) r.is
+  having None e r = ending r.around (whole_sum r.sum r.prod) r.is
 
   -- a token where a literal is wanted
   beginning : (d : ℕ) (xs : List Tok) (o : LiteralStart) → Starts o l → {nots : List ℕ} {ands ors : List Pending} {u : Purpose} → Literal us nots ands ors u → After us (tok p l) (begun o d (tok p l) xs nots ands ors u)
@@ -345,27 +345,27 @@ module _ (us : List Tok) (p : ℕ) (l : Lexeme) where
   finishing e (InBlock.inner q (Heads.while-body i r s f g h)) (Commands.more j k) is = tt
 
   -- a token where a command is wanted
-  commanding : (o : CommandStart) → Commanding o l → {cs : List Command} {k : Block} → Among us cs k [] → After us (tok p l) (commanded o p cs k)
-  commanding (command.Set x) e r = record {
+  commanding : (o : Result CommandStart ReaderCause) → Commanding o l → {cs : List Command} {k : Block} → Among us cs k [] → After us (tok p l) (commanded o p cs k)
+  commanding (Ok (command.Set x)) e r = record {
     a = r.a;
     c = r.c;
     around = r.around;
     read = r.read;
     is = with-token e r.is ∙ simp (append_assoc, append-nil);
   }
-  commanding command.If e r = record {
+  commanding (Ok command.If) e r = record {
     a = _;
     around = Opening.by-if p r.around r.read;
     is = with-token e r.is ∙ simp (append_assoc, append-nil);
   }
-  commanding command.While e r = record {
+  commanding (Ok command.While) e r = record {
     a = _;
     around = Opening.by-while p r.around r.read;
     is = with-token e r.is ∙ simp (append_assoc, append-nil);
   }
-  commanding command.CloseBlock e r = closing e r.around r.read (r.is ∙ simp append-nil)
-  commanding command.End e r = finishing e r.around r.read (r.is ∙ simp append-nil)
-  commanding (command.Neither c) e r = tt
+  commanding (Ok command.CloseBlock) e r = closing e r.around r.read (r.is ∙ simp append-nil)
+  commanding (Ok command.End) e r = finishing e r.around r.read (r.is ∙ simp append-nil)
+  commanding (Err c) e r = tt
 
   -- the = of a command, the ( of its condition, the { of its block, and what follows an if
   becoming : {q y : ℕ} {cs : List Command} {k : Block} → l ≡ lexeme.Becomes → Among us cs k (tok q (lexeme.Name y) ∷ []) → Wanting (us ++ tok p l ∷ []) none none (to_set q y cs k)

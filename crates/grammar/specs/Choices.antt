@@ -1,7 +1,7 @@
 -- What a lexeme is to each place in a sheet at which it can stand. These are tables, a line for each lexeme; what is not
 -- taken at a place is refused there, as a byte that begins no token, a number too large, a name that is not
 -- listed, or else as unexpected.
-use Rattle.std.specs.Prelude.{ℕ, suc, pred, Some, None, Option}
+use Rattle.std.specs.Prelude.{ℕ, suc, pred, Some, None, Ok, Err, Option, Result}
 use Rattle.faults.specs.declared.causes.ReaderCause.{ReaderCause}
 use Rattle.faults.specs.declared.causes.ReaderCause.TheVariants.{NoToken, NumberTooLarge, UnlistedName, Unexpected}
 use Rattle.arith.specs.declared.comparison.Comparison.{Comparison}
@@ -23,54 +23,54 @@ use Rattle.grammar.specs.declared.choice.Mark.{Mark}
 use Rattle.grammar.specs.declared.choice.Mark.TheVariants as mark
 
 -- where a factor is wanted
-abbrev pub operand_of : Lexeme → Operand
-operand_of (lexeme.Number v) = operand.Number v
-operand_of lexeme.TooLarge = operand.Neither NumberTooLarge
-operand_of (lexeme.Name x) = operand.Name x
-operand_of lexeme.Unlisted = operand.Neither UnlistedName
-operand_of (lexeme.Truth b) = operand.Neither Unexpected
-operand_of lexeme.If = operand.Neither Unexpected
-operand_of lexeme.Else = operand.Neither Unexpected
-operand_of lexeme.While = operand.Neither Unexpected
-operand_of (lexeme.Additive o) = operand.Neither Unexpected
-operand_of (lexeme.Multiplicative o) = operand.Neither Unexpected
-operand_of (lexeme.Compare c) = operand.Neither Unexpected
-operand_of lexeme.Not = operand.Neither Unexpected
-operand_of lexeme.And = operand.Neither Unexpected
-operand_of lexeme.Or = operand.Neither Unexpected
-operand_of lexeme.Open = operand.Bracket
-operand_of lexeme.Close = operand.Neither Unexpected
-operand_of lexeme.OpenBlock = operand.Neither Unexpected
-operand_of lexeme.CloseBlock = operand.Neither Unexpected
-operand_of lexeme.Semicolon = operand.Neither Unexpected
-operand_of lexeme.Becomes = operand.Neither Unexpected
-operand_of lexeme.End = operand.Neither Unexpected
-operand_of lexeme.Stray = operand.Neither NoToken
+abbrev pub operand_of : Lexeme → Result Operand ReaderCause
+operand_of (lexeme.Number v) = Ok (operand.Number v)
+operand_of lexeme.TooLarge = Err NumberTooLarge
+operand_of (lexeme.Name x) = Ok (operand.Name x)
+operand_of lexeme.Unlisted = Err UnlistedName
+operand_of (lexeme.Truth b) = Err Unexpected
+operand_of lexeme.If = Err Unexpected
+operand_of lexeme.Else = Err Unexpected
+operand_of lexeme.While = Err Unexpected
+operand_of (lexeme.Additive o) = Err Unexpected
+operand_of (lexeme.Multiplicative o) = Err Unexpected
+operand_of (lexeme.Compare c) = Err Unexpected
+operand_of lexeme.Not = Err Unexpected
+operand_of lexeme.And = Err Unexpected
+operand_of lexeme.Or = Err Unexpected
+operand_of lexeme.Open = Ok operand.Bracket
+operand_of lexeme.Close = Err Unexpected
+operand_of lexeme.OpenBlock = Err Unexpected
+operand_of lexeme.CloseBlock = Err Unexpected
+operand_of lexeme.Semicolon = Err Unexpected
+operand_of lexeme.Becomes = Err Unexpected
+operand_of lexeme.End = Err Unexpected
+operand_of lexeme.Stray = Err NoToken
 
 -- behind a factor
-abbrev pub join_of : Lexeme → Join
-join_of (lexeme.Number v) = join.Nothing
-join_of lexeme.TooLarge = join.Nothing
-join_of (lexeme.Name x) = join.Nothing
-join_of lexeme.Unlisted = join.Nothing
-join_of (lexeme.Truth b) = join.Nothing
-join_of lexeme.If = join.Nothing
-join_of lexeme.Else = join.Nothing
-join_of lexeme.While = join.Nothing
-join_of (lexeme.Additive o) = join.Additive o
-join_of (lexeme.Multiplicative o) = join.Multiplicative o
-join_of (lexeme.Compare c) = join.Nothing
-join_of lexeme.Not = join.Nothing
-join_of lexeme.And = join.Nothing
-join_of lexeme.Or = join.Nothing
-join_of lexeme.Open = join.Nothing
-join_of lexeme.Close = join.Nothing
-join_of lexeme.OpenBlock = join.Nothing
-join_of lexeme.CloseBlock = join.Nothing
-join_of lexeme.Semicolon = join.Nothing
-join_of lexeme.Becomes = join.Nothing
-join_of lexeme.End = join.Nothing
-join_of lexeme.Stray = join.Nothing
+abbrev pub join_of : Lexeme → Option Join
+join_of (lexeme.Number v) = None
+join_of lexeme.TooLarge = None
+join_of (lexeme.Name x) = None
+join_of lexeme.Unlisted = None
+join_of (lexeme.Truth b) = None
+join_of lexeme.If = None
+join_of lexeme.Else = None
+join_of lexeme.While = None
+join_of (lexeme.Additive o) = Some (join.Additive o)
+join_of (lexeme.Multiplicative o) = Some (join.Multiplicative o)
+join_of (lexeme.Compare c) = None
+join_of lexeme.Not = None
+join_of lexeme.And = None
+join_of lexeme.Or = None
+join_of lexeme.Open = None
+join_of lexeme.Close = None
+join_of lexeme.OpenBlock = None
+join_of lexeme.CloseBlock = None
+join_of lexeme.Semicolon = None
+join_of lexeme.Becomes = None
+join_of lexeme.End = None
+join_of lexeme.Stray = None
 
 -- behind the left sum of a comparison
 abbrev pub comparison_of : Lexeme → Option Comparison
@@ -123,79 +123,79 @@ literal_of lexeme.End = literal.Sum
 literal_of lexeme.Stray = literal.Sum
 
 -- behind a literal
-abbrev pub link_of : Lexeme → Link
-link_of (lexeme.Number v) = link.Nothing
-link_of lexeme.TooLarge = link.Nothing
-link_of (lexeme.Name x) = link.Nothing
-link_of lexeme.Unlisted = link.Nothing
-link_of (lexeme.Truth b) = link.Nothing
-link_of lexeme.If = link.Nothing
-link_of lexeme.Else = link.Nothing
-link_of lexeme.While = link.Nothing
-link_of (lexeme.Additive o) = link.Nothing
-link_of (lexeme.Multiplicative o) = link.Nothing
-link_of (lexeme.Compare c) = link.Nothing
-link_of lexeme.Not = link.Nothing
-link_of lexeme.And = link.And
-link_of lexeme.Or = link.Or
-link_of lexeme.Open = link.Nothing
-link_of lexeme.Close = link.Nothing
-link_of lexeme.OpenBlock = link.Nothing
-link_of lexeme.CloseBlock = link.Nothing
-link_of lexeme.Semicolon = link.Nothing
-link_of lexeme.Becomes = link.Nothing
-link_of lexeme.End = link.Nothing
-link_of lexeme.Stray = link.Nothing
+abbrev pub link_of : Lexeme → Option Link
+link_of (lexeme.Number v) = None
+link_of lexeme.TooLarge = None
+link_of (lexeme.Name x) = None
+link_of lexeme.Unlisted = None
+link_of (lexeme.Truth b) = None
+link_of lexeme.If = None
+link_of lexeme.Else = None
+link_of lexeme.While = None
+link_of (lexeme.Additive o) = None
+link_of (lexeme.Multiplicative o) = None
+link_of (lexeme.Compare c) = None
+link_of lexeme.Not = None
+link_of lexeme.And = Some link.And
+link_of lexeme.Or = Some link.Or
+link_of lexeme.Open = None
+link_of lexeme.Close = None
+link_of lexeme.OpenBlock = None
+link_of lexeme.CloseBlock = None
+link_of lexeme.Semicolon = None
+link_of lexeme.Becomes = None
+link_of lexeme.End = None
+link_of lexeme.Stray = None
 
 -- where a command is wanted, or the end of its block
-abbrev pub command_of : Lexeme → CommandStart
-command_of (lexeme.Number v) = command.Neither Unexpected
-command_of lexeme.TooLarge = command.Neither Unexpected
-command_of (lexeme.Name x) = command.Set x
-command_of lexeme.Unlisted = command.Neither UnlistedName
-command_of (lexeme.Truth b) = command.Neither Unexpected
-command_of lexeme.If = command.If
-command_of lexeme.Else = command.Neither Unexpected
-command_of lexeme.While = command.While
-command_of (lexeme.Additive o) = command.Neither Unexpected
-command_of (lexeme.Multiplicative o) = command.Neither Unexpected
-command_of (lexeme.Compare c) = command.Neither Unexpected
-command_of lexeme.Not = command.Neither Unexpected
-command_of lexeme.And = command.Neither Unexpected
-command_of lexeme.Or = command.Neither Unexpected
-command_of lexeme.Open = command.Neither Unexpected
-command_of lexeme.Close = command.Neither Unexpected
-command_of lexeme.OpenBlock = command.Neither Unexpected
-command_of lexeme.CloseBlock = command.CloseBlock
-command_of lexeme.Semicolon = command.Neither Unexpected
-command_of lexeme.Becomes = command.Neither Unexpected
-command_of lexeme.End = command.End
-command_of lexeme.Stray = command.Neither NoToken
+abbrev pub command_of : Lexeme → Result CommandStart ReaderCause
+command_of (lexeme.Number v) = Err Unexpected
+command_of lexeme.TooLarge = Err Unexpected
+command_of (lexeme.Name x) = Ok (command.Set x)
+command_of lexeme.Unlisted = Err UnlistedName
+command_of (lexeme.Truth b) = Err Unexpected
+command_of lexeme.If = Ok command.If
+command_of lexeme.Else = Err Unexpected
+command_of lexeme.While = Ok command.While
+command_of (lexeme.Additive o) = Err Unexpected
+command_of (lexeme.Multiplicative o) = Err Unexpected
+command_of (lexeme.Compare c) = Err Unexpected
+command_of lexeme.Not = Err Unexpected
+command_of lexeme.And = Err Unexpected
+command_of lexeme.Or = Err Unexpected
+command_of lexeme.Open = Err Unexpected
+command_of lexeme.Close = Err Unexpected
+command_of lexeme.OpenBlock = Err Unexpected
+command_of lexeme.CloseBlock = Ok command.CloseBlock
+command_of lexeme.Semicolon = Err Unexpected
+command_of lexeme.Becomes = Err Unexpected
+command_of lexeme.End = Ok command.End
+command_of lexeme.Stray = Err NoToken
 
 -- where one sign or word alone may stand
-abbrev pub mark_of : Lexeme → Mark
-mark_of (lexeme.Number v) = mark.Other
-mark_of lexeme.TooLarge = mark.Other
-mark_of (lexeme.Name x) = mark.Other
-mark_of lexeme.Unlisted = mark.Other
-mark_of (lexeme.Truth b) = mark.Other
-mark_of lexeme.If = mark.Other
-mark_of lexeme.Else = mark.Else
-mark_of lexeme.While = mark.Other
-mark_of (lexeme.Additive o) = mark.Other
-mark_of (lexeme.Multiplicative o) = mark.Other
-mark_of (lexeme.Compare c) = mark.Other
-mark_of lexeme.Not = mark.Other
-mark_of lexeme.And = mark.Other
-mark_of lexeme.Or = mark.Other
-mark_of lexeme.Open = mark.Open
-mark_of lexeme.Close = mark.Close
-mark_of lexeme.OpenBlock = mark.OpenBlock
-mark_of lexeme.CloseBlock = mark.Other
-mark_of lexeme.Semicolon = mark.Semicolon
-mark_of lexeme.Becomes = mark.Becomes
-mark_of lexeme.End = mark.Other
-mark_of lexeme.Stray = mark.Other
+abbrev pub mark_of : Lexeme → Option Mark
+mark_of (lexeme.Number v) = None
+mark_of lexeme.TooLarge = None
+mark_of (lexeme.Name x) = None
+mark_of lexeme.Unlisted = None
+mark_of (lexeme.Truth b) = None
+mark_of lexeme.If = None
+mark_of lexeme.Else = Some mark.Else
+mark_of lexeme.While = None
+mark_of (lexeme.Additive o) = None
+mark_of (lexeme.Multiplicative o) = None
+mark_of (lexeme.Compare c) = None
+mark_of lexeme.Not = None
+mark_of lexeme.And = None
+mark_of lexeme.Or = None
+mark_of lexeme.Open = Some mark.Open
+mark_of lexeme.Close = Some mark.Close
+mark_of lexeme.OpenBlock = Some mark.OpenBlock
+mark_of lexeme.CloseBlock = None
+mark_of lexeme.Semicolon = Some mark.Semicolon
+mark_of lexeme.Becomes = Some mark.Becomes
+mark_of lexeme.End = None
+mark_of lexeme.Stray = None
 
 -- why a token is refused that no rule takes
 abbrev pub refusal_of : Lexeme → ReaderCause

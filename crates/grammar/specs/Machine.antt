@@ -4,7 +4,7 @@
 --
 -- A reader need not believe it: that it reads just the sheets that the grammar derives within the limits, and as
 -- their trees, is a law on the contract of reading. What it adds is which refusal is given, and where.
-use Rattle.std.specs.Prelude.{ℕ, Bool, false, cond, List, [], ◌∷◌, Some, None, Option, nat_lt}
+use Rattle.std.specs.Prelude.{ℕ, Bool, false, cond, List, [], ◌∷◌, Some, None, Ok, Err, Option, Result, nat_lt}
 use Rattle.faults.specs.declared.causes.ReaderCause.{ReaderCause}
 use Rattle.faults.specs.declared.causes.ReaderCause.TheVariants.{Unexpected, TooManyOpen}
 use Rattle.arith.specs.declared.operator.Operator.{Operator}
@@ -22,7 +22,7 @@ use Rattle.grammar.specs.declared.choice.Link.TheVariants as link
 use Rattle.grammar.specs.declared.choice.CommandStart.{CommandStart}
 use Rattle.grammar.specs.declared.choice.CommandStart.TheVariants as command
 use Rattle.grammar.specs.declared.choice.Mark.{Mark}
-use Rattle.grammar.specs.declared.choice.Mark.TheVariants.{Else, Open, Close, OpenBlock, Semicolon, Becomes, Other}
+use Rattle.grammar.specs.declared.choice.Mark.TheVariants.{Else, Open, Close, OpenBlock, Semicolon, Becomes}
 use Rattle.grammar.specs.Choices.{operand_of, join_of, comparison_of, literal_of, link_of, command_of, mark_of, refusal_of, sight_in, depth_after}
 use Rattle.grammar.specs.Lexemes.{Tok}
 use Rattle.grammar.specs.Grammar.{first_place}
@@ -106,59 +106,59 @@ pub data State : Type 0 where
 
 -- by the one sign or word that may stand
 
-abbrev pub if_else : {A : Type 0} → Mark → A → A → A
-if_else Else x y = x
-if_else Open x y = y
-if_else Close x y = y
-if_else OpenBlock x y = y
-if_else Semicolon x y = y
-if_else Becomes x y = y
-if_else Other x y = y
+abbrev pub if_else : {A : Type 0} → Option Mark → A → A → A
+if_else (Some Else) x y = x
+if_else (Some Open) x y = y
+if_else (Some Close) x y = y
+if_else (Some OpenBlock) x y = y
+if_else (Some Semicolon) x y = y
+if_else (Some Becomes) x y = y
+if_else None x y = y
 
-abbrev pub if_open : {A : Type 0} → Mark → A → A → A
-if_open Else x y = y
-if_open Open x y = x
-if_open Close x y = y
-if_open OpenBlock x y = y
-if_open Semicolon x y = y
-if_open Becomes x y = y
-if_open Other x y = y
+abbrev pub if_open : {A : Type 0} → Option Mark → A → A → A
+if_open (Some Else) x y = y
+if_open (Some Open) x y = x
+if_open (Some Close) x y = y
+if_open (Some OpenBlock) x y = y
+if_open (Some Semicolon) x y = y
+if_open (Some Becomes) x y = y
+if_open None x y = y
 
-abbrev pub if_close : {A : Type 0} → Mark → A → A → A
-if_close Else x y = y
-if_close Open x y = y
-if_close Close x y = x
-if_close OpenBlock x y = y
-if_close Semicolon x y = y
-if_close Becomes x y = y
-if_close Other x y = y
+abbrev pub if_close : {A : Type 0} → Option Mark → A → A → A
+if_close (Some Else) x y = y
+if_close (Some Open) x y = y
+if_close (Some Close) x y = x
+if_close (Some OpenBlock) x y = y
+if_close (Some Semicolon) x y = y
+if_close (Some Becomes) x y = y
+if_close None x y = y
 
-abbrev pub if_open_block : {A : Type 0} → Mark → A → A → A
-if_open_block Else x y = y
-if_open_block Open x y = y
-if_open_block Close x y = y
-if_open_block OpenBlock x y = x
-if_open_block Semicolon x y = y
-if_open_block Becomes x y = y
-if_open_block Other x y = y
+abbrev pub if_open_block : {A : Type 0} → Option Mark → A → A → A
+if_open_block (Some Else) x y = y
+if_open_block (Some Open) x y = y
+if_open_block (Some Close) x y = y
+if_open_block (Some OpenBlock) x y = x
+if_open_block (Some Semicolon) x y = y
+if_open_block (Some Becomes) x y = y
+if_open_block None x y = y
 
-abbrev pub if_semicolon : {A : Type 0} → Mark → A → A → A
-if_semicolon Else x y = y
-if_semicolon Open x y = y
-if_semicolon Close x y = y
-if_semicolon OpenBlock x y = y
-if_semicolon Semicolon x y = x
-if_semicolon Becomes x y = y
-if_semicolon Other x y = y
+abbrev pub if_semicolon : {A : Type 0} → Option Mark → A → A → A
+if_semicolon (Some Else) x y = y
+if_semicolon (Some Open) x y = y
+if_semicolon (Some Close) x y = y
+if_semicolon (Some OpenBlock) x y = y
+if_semicolon (Some Semicolon) x y = x
+if_semicolon (Some Becomes) x y = y
+if_semicolon None x y = y
 
-abbrev pub if_becomes : {A : Type 0} → Mark → A → A → A
-if_becomes Else x y = y
-if_becomes Open x y = y
-if_becomes Close x y = y
-if_becomes OpenBlock x y = y
-if_becomes Semicolon x y = y
-if_becomes Becomes x y = x
-if_becomes Other x y = y
+abbrev pub if_becomes : {A : Type 0} → Option Mark → A → A → A
+if_becomes (Some Else) x y = y
+if_becomes (Some Open) x y = y
+if_becomes (Some Close) x y = y
+if_becomes (Some OpenBlock) x y = y
+if_becomes (Some Semicolon) x y = y
+if_becomes (Some Becomes) x y = x
+if_becomes None x y = y
 
 abbrev pub refuse : Tok → State
 refuse x = refused (refusal_of x.lexeme) x.place
@@ -173,11 +173,11 @@ clue_in [] d = false
 clue_in (x ∷ xs) d = seen_by (sight_in x.lexeme) d (clue_in xs)
 
 -- a token where a factor is wanted
-abbrev pub wanted : ℕ → ℕ → Operand → Left → Left → Use → State
-wanted d p (operand.Number v) s m k = have s (onto m (number p v)) k
-wanted d p (operand.Name x) s m k = have s (onto m (name p x)) k
-wanted d p operand.Bracket s m k = room d p (want none none (within s m k))
-wanted d p (operand.Neither c) s m k = refused c p
+abbrev pub wanted : ℕ → ℕ → Result Operand ReaderCause → Left → Left → Use → State
+wanted d p (Ok (operand.Number v)) s m k = have s (onto m (number p v)) k
+wanted d p (Ok (operand.Name x)) s m k = have s (onto m (name p x)) k
+wanted d p (Ok operand.Bracket) s m k = room d p (want none none (within s m k))
+wanted d p (Err c) s m k = refused c p
 
 -- the condition of a bracket or of a command is closed
 abbrev pub shut : Condition → Purpose → State
@@ -186,10 +186,10 @@ shut c (while_head p cs b) = blocking (while_body p c cs b)
 shut c (bracket nots ands ors u) = had (negated nots c) ands ors u
 
 -- a token behind a literal
-abbrev pub linked : Link → Condition → List Pending → List Pending → Purpose → Tok → State
-linked link.And c ands ors u x = lit [] (pending x.place c ∷ ands) ors u
-linked link.Or c ands ors u x = lit [] [] (pending x.place (joined both ands c) ∷ ors) u
-linked link.Nothing c ands ors u x = if_close (mark_of x.lexeme) (shut (joined either ors (joined both ands c)) u) (refuse x)
+abbrev pub linked : Option Link → Condition → List Pending → List Pending → Purpose → Tok → State
+linked (Some link.And) c ands ors u x = lit [] (pending x.place c ∷ ands) ors u
+linked (Some link.Or) c ands ors u x = lit [] [] (pending x.place (joined both ands c) ∷ ors) u
+linked None c ands ors u x = if_close (mark_of x.lexeme) (shut (joined either ors (joined both ands c)) u) (refuse x)
 
 abbrev pub behind : Condition → List Pending → List Pending → Purpose → Tok → State
 behind c ands ors u x = linked (link_of x.lexeme) c ands ors u x
@@ -206,10 +206,10 @@ ended (right_of p k l nots ands ors u) e x = behind (negated nots (compare p k l
 ended (within s m k) e x = if_close (mark_of x.lexeme) (have s (onto m e) k) (refuse x)
 
 -- a token behind a factor
-abbrev pub continued : Join → Left → Sum → Use → Tok → State
-continued (join.Additive o) s e k x = want (left x.place o (onto s e)) none k
-continued (join.Multiplicative o) s e k x = want s (left x.place o e) k
-continued join.Nothing s e k x = ended k (onto s e) x
+abbrev pub continued : Option Join → Left → Sum → Use → Tok → State
+continued (Some (join.Additive o)) s e k x = want (left x.place o (onto s e)) none k
+continued (Some (join.Multiplicative o)) s e k x = want s (left x.place o e) k
+continued None s e k x = ended k (onto s e) x
 
 -- a token where a literal is wanted
 abbrev pub begun : LiteralStart → ℕ → Tok → List Tok → List ℕ → List Pending → List Pending → Purpose → State
@@ -240,13 +240,13 @@ finished p (c ∷ cs) (else_body q d t ds b) = refused Unexpected p
 finished p (c ∷ cs) (while_body q d ds b) = refused Unexpected p
 
 -- a token where a command is wanted
-abbrev pub commanded : CommandStart → ℕ → List Command → Block → State
-commanded (command.Set x) p cs b = becomes p x cs b
-commanded command.If p cs b = opening (if_head p cs b)
-commanded command.While p cs b = opening (while_head p cs b)
-commanded command.CloseBlock p cs b = closed p cs b
-commanded command.End p cs b = finished p cs b
-commanded (command.Neither c) p cs b = refused c p
+abbrev pub commanded : Result CommandStart ReaderCause → ℕ → List Command → Block → State
+commanded (Ok (command.Set x)) p cs b = becomes p x cs b
+commanded (Ok command.If) p cs b = opening (if_head p cs b)
+commanded (Ok command.While) p cs b = opening (while_head p cs b)
+commanded (Ok command.CloseBlock) p cs b = closed p cs b
+commanded (Ok command.End) p cs b = finished p cs b
+commanded (Err c) p cs b = refused c p
 
 -- one token, where d brackets are open and the rest is still to come
 abbrev pub step : ℕ → State → Tok → List Tok → State

@@ -7,24 +7,22 @@ use arith::{Comparison, Operator};
 use faults::ReaderCause;
 
 // Where a factor is wanted.
-#[derive(Clone, Copy)]
+#[derive(Clone, Copy, PartialEq, Eq, Debug)]
 pub enum Operand {
     Number(i32),
     Name(usize),
     Bracket,
-    Neither(ReaderCause),
 }
 
 // Behind a factor.
-#[derive(Clone, Copy)]
+#[derive(Clone, Copy, PartialEq, Eq, Debug)]
 pub enum Join {
     Additive(Operator),
     Multiplicative(Operator),
-    Nothing,
 }
 
 // Where a literal is wanted. A sum begins where nothing else does.
-#[derive(Clone, Copy)]
+#[derive(Clone, Copy, PartialEq, Eq, Debug)]
 pub enum LiteralStart {
     Truth(bool),
     Not,
@@ -33,26 +31,24 @@ pub enum LiteralStart {
 }
 
 // Behind a literal.
-#[derive(Clone, Copy)]
+#[derive(Clone, Copy, PartialEq, Eq, Debug)]
 pub enum Link {
     And,
     Or,
-    Nothing,
 }
 
 // Where a command is wanted, or the end of its block.
-#[derive(Clone, Copy)]
+#[derive(Clone, Copy, PartialEq, Eq, Debug)]
 pub enum CommandStart {
     Set(usize),
     If,
     While,
     CloseBlock,
     End,
-    Neither(ReaderCause),
 }
 
 // Where one sign or word alone may stand.
-#[derive(Clone, Copy)]
+#[derive(Clone, Copy, PartialEq, Eq, Debug)]
 pub enum Mark {
     Else,
     Open,
@@ -60,30 +56,29 @@ pub enum Mark {
     OpenBlock,
     Semicolon,
     Becomes,
-    Other,
 }
 
 impl Lexeme {
-    pub fn operand(self) -> Operand
+    pub fn operand(self) -> Result<Operand, ReaderCause>
         ensures { result ≡ operand_of self }
     {
         match self {
-            Lexeme::Number(value) => Operand::Number(value),
-            Lexeme::Name(point) => Operand::Name(point),
-            Lexeme::Open => Operand::Bracket,
-            Lexeme::TooLarge => Operand::Neither(ReaderCause::NumberTooLarge),
-            Lexeme::Unlisted => Operand::Neither(ReaderCause::UnlistedName),
-            _ => Operand::Neither(self.refusal()),
+            Lexeme::Number(value) => Ok(Operand::Number(value)),
+            Lexeme::Name(point) => Ok(Operand::Name(point)),
+            Lexeme::Open => Ok(Operand::Bracket),
+            Lexeme::TooLarge => Err(ReaderCause::NumberTooLarge),
+            Lexeme::Unlisted => Err(ReaderCause::UnlistedName),
+            _ => Err(self.refusal()),
         }
     }
 
-    pub fn join(self) -> Join
+    pub fn join(self) -> Option<Join>
         ensures { result ≡ join_of self }
     {
         match self {
-            Lexeme::Additive(operator) => Join::Additive(operator),
-            Lexeme::Multiplicative(operator) => Join::Multiplicative(operator),
-            _ => Join::Nothing,
+            Lexeme::Additive(operator) => Some(Join::Additive(operator)),
+            Lexeme::Multiplicative(operator) => Some(Join::Multiplicative(operator)),
+            _ => None,
         }
     }
 
@@ -107,41 +102,41 @@ impl Lexeme {
         }
     }
 
-    pub fn link(self) -> Link
+    pub fn link(self) -> Option<Link>
         ensures { result ≡ link_of self }
     {
         match self {
-            Lexeme::And => Link::And,
-            Lexeme::Or => Link::Or,
-            _ => Link::Nothing,
+            Lexeme::And => Some(Link::And),
+            Lexeme::Or => Some(Link::Or),
+            _ => None,
         }
     }
 
-    pub fn command_start(self) -> CommandStart
+    pub fn command_start(self) -> Result<CommandStart, ReaderCause>
         ensures { result ≡ command_of self }
     {
         match self {
-            Lexeme::Name(point) => CommandStart::Set(point),
-            Lexeme::If => CommandStart::If,
-            Lexeme::While => CommandStart::While,
-            Lexeme::CloseBlock => CommandStart::CloseBlock,
-            Lexeme::End => CommandStart::End,
-            Lexeme::Unlisted => CommandStart::Neither(ReaderCause::UnlistedName),
-            _ => CommandStart::Neither(self.refusal()),
+            Lexeme::Name(point) => Ok(CommandStart::Set(point)),
+            Lexeme::If => Ok(CommandStart::If),
+            Lexeme::While => Ok(CommandStart::While),
+            Lexeme::CloseBlock => Ok(CommandStart::CloseBlock),
+            Lexeme::End => Ok(CommandStart::End),
+            Lexeme::Unlisted => Err(ReaderCause::UnlistedName),
+            _ => Err(self.refusal()),
         }
     }
 
-    pub fn mark(self) -> Mark
+    pub fn mark(self) -> Option<Mark>
         ensures { result ≡ mark_of self }
     {
         match self {
-            Lexeme::Else => Mark::Else,
-            Lexeme::Open => Mark::Open,
-            Lexeme::Close => Mark::Close,
-            Lexeme::OpenBlock => Mark::OpenBlock,
-            Lexeme::Semicolon => Mark::Semicolon,
-            Lexeme::Becomes => Mark::Becomes,
-            _ => Mark::Other,
+            Lexeme::Else => Some(Mark::Else),
+            Lexeme::Open => Some(Mark::Open),
+            Lexeme::Close => Some(Mark::Close),
+            Lexeme::OpenBlock => Some(Mark::OpenBlock),
+            Lexeme::Semicolon => Some(Mark::Semicolon),
+            Lexeme::Becomes => Some(Mark::Becomes),
+            _ => None,
         }
     }
 

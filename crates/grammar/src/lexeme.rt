@@ -1,7 +1,7 @@
 // Lexemes: what a token of a sheet is to the grammar, once the name list is known.
 use arith::{Comparison, Operator};
 
-#[derive(Clone, Copy)]
+#[derive(Clone, Copy, PartialEq, Eq, Debug)]
 pub enum Lexeme {
     Number(i32),
     // Digits of a number over 2,147,483,647.

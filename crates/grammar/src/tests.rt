@@ -27,8 +27,8 @@ fn numbers_up_to_the_largest(rt: HostRuntime) -> Result<(), Fail> {
         ("000000000000000000000000000000001", Some(1)),
     ] {
         match first(text)?.operand() {
-            Operand::Number(read) => assert_eq!(rt; value, Some(read)),
-            Operand::Neither(ReaderCause::NumberTooLarge) => assert_eq!(rt; value, None),
+            Ok(Operand::Number(read)) => assert_eq!(rt; value, Some(read)),
+            Err(ReaderCause::NumberTooLarge) => assert_eq!(rt; value, None),
             _ => assert!(rt; false),
         }
     }
@@ -44,8 +44,8 @@ fn names_by_their_points(rt: HostRuntime) -> Result<(), Fail> {
         ("If", None),
     ] {
         match first(text)?.command_start() {
-            CommandStart::Set(found) => assert_eq!(rt; point, Some(found)),
-            CommandStart::Neither(ReaderCause::UnlistedName) => assert_eq!(rt; point, None),
+            Ok(CommandStart::Set(found)) => assert_eq!(rt; point, Some(found)),
+            Err(ReaderCause::UnlistedName) => assert_eq!(rt; point, None),
             _ => assert!(rt; false),
         }
     }

@@ -1,5 +1,5 @@
 -- The one sign or word that was expected, the machine at a bracket, and what was told between brackets.
-use Rattle.std.proofs.Common.{◌≡◌, ℕ, suc, pred, ◌≤◌, List, length, sym, ap, ◌∙◌, arith}
+use Rattle.std.proofs.Common.{◌≡◌, ℕ, suc, pred, ◌≤◌, List, length, sym, ap, ◌∙◌}
 use Rattle.faults.specs.declared.causes.ReaderCause.TheVariants.{TooManyOpen}
 use Rattle.tables.specs.declared.row.Row.{Row}
 use Rattle.grammar.specs.declared.lexeme.Lexeme.TheVariants as lexeme
@@ -10,8 +10,9 @@ use Rattle.grammar.proofs.Lexing.{run-refused}
 use Rattle.reader.specs.declared.seen.Seen.{Seen}
 use Rattle.reader.specs.declared.seen.Refusal.{Refusal}
 use Rattle.reader.specs.declared.progress.Progress.{Progress}
-use Rattle.reader.specs.Progressing.{Passed, put, Wrote}
+use Rattle.reader.specs.Progressing.{Passed, Wrote}
 use Rattle.reader.proofs.Entering.{Entered, Barred}
+use Rattle.reader.proofs.Writing.{within-told}
 use Rattle.reader.proofs.Nexts.{open-taken, close-taken, open-block-taken, semicolon-taken, becomes-taken}
 
 -- which token it is
@@ -43,12 +44,4 @@ no_room {a} {s} {r} e ts d m =
 
 -- what was told between brackets was told with them
 pub between : {text : List ℕ} (a : Progress) {y z : Progress} (w : Progress) {old new rs : List Row} → y.count ≡ a.count → y.depth ≡ suc a.depth → a.position.at ≤ y.position.at → Wrote text y old z new rs → w.count ≡ z.count → w.depth ≡ pred z.depth → z.position.at ≤ w.position.at → w.position.at ≤ length text → Wrote text a old w new rs
-between a {y} {z} w {old} {new} {rs} n d le wrote m e up inside =
-    record {
-      rows = wrote.rows ∙ ap (λ i. put old i rs) n;
-      count = omega (arith, wrote.count);
-      moved = omega (arith, wrote.moved);
-      within = inside;
-      few = omega (arith, wrote.few);
-      depth = e ∙ ap pred (wrote.depth ∙ d);
-    }
+between a w n d le wrote m e up inside = within-told a w n le m (e ∙ ap pred (wrote.depth ∙ d)) up inside wrote

@@ -1,5 +1,5 @@
 -- What is known of the names and the text of a reader is known of any that holds the same.
-use Rattle.std.proofs.Common.{◌≡◌, ℕ, List, Result, subst}
+use Rattle.std.proofs.Common.{◌≡◌, ℕ, List, Err, Result, subst}
 use Rattle.names.specs.Lines.{lines_of}
 use Rattle.grammar.specs.declared.choice.Mark.{Mark}
 use Rattle.reader.specs.declared.seen.Seen.{Seen}
@@ -24,3 +24,7 @@ passed {h} {o} {wanted} {a} {z} {s} same = carried (λ names text. Passed wanted
 
 pub missed : {h o : Held} {wanted : Mark} {a : Progress} {r : Refusal} → h ≡ o → Missed wanted (lines_of h.names) h.text a r → Missed wanted (lines_of o.names) o.text a r
 missed {h} {o} {wanted} {a} {r} same = carried (λ names text. Missed wanted names text a r) same
+
+-- a refusal of a part that is passed on
+pub stops : {A : Answer} {o q : Reader} {res : Result (Unit {0}) Refusal} {r : Refusal} → (x : Refusal) × (res ≡ Err x) × (x ≡ r) → A (lines_of o.names.text.now) o.text.now o.progress o.rows.now q.progress q.rows.now (Err r) → Reads A o q res
+stops p h = rw (p.1, p.2) (record { answer = h })

@@ -1,6 +1,6 @@
 -- One turn of each function that reads commands, blocks and sheets: the machine goes from where the first part began to
 -- where the last ends, and the rows are those of the tree.
-use Rattle.std.proofs.Common.{◌≡◌, ℕ, suc, pred, ◌+◌, ◌-◌, ◌<◌, ◌≤◌, List, [], ◌∷◌, length, pos, sym, refl, ap, ◌∙◌, subst, sub-one, arith}
+use Rattle.std.proofs.Common.{◌≡◌, ℕ, suc, pred, ◌+◌, ◌-◌, ◌<◌, ◌≤◌, List, [], ◌∷◌, length, pos, Some, None, Ok, Err, Option, Result, sym, refl, ap, ◌∙◌, subst, ⊎_elim, sub-one, arith}
 use Rattle.faults.specs.declared.causes.ReaderCause.{ReaderCause}
 use Rattle.faults.specs.declared.causes.ReaderCause.TheVariants.{Unexpected}
 use Rattle.tables.specs.declared.kind.Kind.TheVariants as kind
@@ -11,19 +11,19 @@ use Rattle.grammar.specs.declared.choice.CommandStart.{CommandStart}
 use Rattle.grammar.specs.declared.choice.CommandStart.TheVariants as command
 use Rattle.grammar.specs.declared.choice.Mark.{Mark}
 use Rattle.grammar.specs.declared.choice.Mark.TheVariants as mark
-use Rattle.grammar.specs.Choices.{command_of, mark_of, depth_after}
+use Rattle.grammar.specs.Choices.{command_of, mark_of, refusal_of, depth_after}
 use Rattle.grammar.specs.Lexemes.{Tok}
 use Rattle.grammar.specs.Machine.{none, Block, whole, if_body, else_body, while_body, Purpose, if_head, while_head, Use, to_set, State, want, cmd, becomes, opening, blocking, else_or, refused, if_else, gathered, left-block, closed, finished, commanded, run}
 use Rattle.grammar.proofs.Lexing.{run-refused}
 use Rattle.reader.specs.declared.seen.Seen.{Seen}
 use Rattle.reader.specs.declared.seen.Refusal.{Refusal}
 use Rattle.reader.specs.declared.progress.Progress.{Progress}
-use Rattle.reader.specs.Ahead.{ahead, follow, HereIs, refused_at}
+use Rattle.reader.specs.Ahead.{ahead, follow, HereIs, refused_at, seen_as}
 use Rattle.reader.specs.Progressing.{read_on, told, Passed, Missed, from}
 use Rattle.reader.specs.Summing.{TookSum, behind_sum}
 use Rattle.reader.specs.Judging.{TookBracket}
 use Rattle.reader.specs.Ordering.{pushed, JoinedInPlace, place_ahead, EndsSheet, EndAhead, Inner, Wanting, TookCommand, TookSheet, TookBlock, Begins}
-use Rattle.reader.proofs.Nexts.{further, next, taking, set-taken, if-taken, while-taken, close-block-taken, end-taken, else-taken}
+use Rattle.reader.proofs.Nexts.{sheet-ends, further, next, taking, refusing, seen-refused, set-taken, if-taken, while-taken, close-block-taken, end-taken, else-taken}
 use Rattle.reader.proofs.Entering.{Entered, Barred}
 use Rattle.reader.proofs.Bracketing.{passed-open-block, passed-semicolon, passed-becomes, room-left, no_room, between}
 use Rattle.reader.proofs.Writing.{sum-long, condition-long, command-long, sheet-long, before, beyond, one_told, two-told, three-told}
@@ -107,26 +107,26 @@ while-on : {names : List (List ℕ)} {text : List ℕ} {a x : Progress} {s : See
 while-on {names} {text} {a} {x} {s} g on cs b = taking lexeme.While g.here (while-taken g.is) a.depth (cmd cs b) ∙ again names text a s on (opening (while_head s.place cs b))
 
 -- behind the block of an if
-else-on : {names : List (List ℕ)} {text : List ℕ} {a z : Progress} {s : Seen} → HereIs names text a.position.at s → mark_of s.lexeme ≡ mark.Else → z ≡ read_on a s → (p : ℕ) (c : Condition) (t : Sheet) (cs : List Command) (b : Block) → from names text a (else_or p c t cs b) ≡ from names text z (blocking (else_body p c t cs b))
+else-on : {names : List (List ℕ)} {text : List ℕ} {a z : Progress} {s : Seen} → HereIs names text a.position.at s → mark_of s.lexeme ≡ Some mark.Else → z ≡ read_on a s → (p : ℕ) (c : Condition) (t : Sheet) (cs : List Command) (b : Block) → from names text a (else_or p c t cs b) ≡ from names text z (blocking (else_body p c t cs b))
 else-on {names} {text} {a} {z} {s} h is on p c t cs b = taking lexeme.Else h (else-taken is) a.depth (else_or p c t cs b) ∙ again names text a s on (blocking (else_body p c t cs b))
 
-not-else : (m : Mark) → (m ≡ mark.Else → ⊥) → (x y : State) → if_else m x y ≡ y
-not-else mark.Else other x y = absurd (other refl)
-not-else mark.Open other x y = refl
-not-else mark.Close other x y = refl
-not-else mark.OpenBlock other x y = refl
-not-else mark.Semicolon other x y = refl
-not-else mark.Becomes other x y = refl
-not-else mark.Other other x y = refl
+not-else : (m : Option Mark) → (m ≡ Some mark.Else → ⊥) → (x y : State) → if_else m x y ≡ y
+not-else (Some mark.Else) other x y = absurd (other refl)
+not-else (Some mark.Open) other x y = refl
+not-else (Some mark.Close) other x y = refl
+not-else (Some mark.OpenBlock) other x y = refl
+not-else (Some mark.Semicolon) other x y = refl
+not-else (Some mark.Becomes) other x y = refl
+not-else None other x y = refl
 
-no-else : {names : List (List ℕ)} {text : List ℕ} (a : Progress) {s : Seen} → HereIs names text a.position.at s → (mark_of s.lexeme ≡ mark.Else → ⊥) → (p : ℕ) (c : Condition) (t : Sheet) (cs : List Command) (b : Block) → from names text a (else_or p c t cs b) ≡ from names text a (cmd (when p c t ∷ cs) b)
+no-else : {names : List (List ℕ)} {text : List ℕ} (a : Progress) {s : Seen} → HereIs names text a.position.at s → (mark_of s.lexeme ≡ Some mark.Else → ⊥) → (p : ℕ) (c : Condition) (t : Sheet) (cs : List Command) (b : Block) → from names text a (else_or p c t cs b) ≡ from names text a (cmd (when p c t ∷ cs) b)
 no-else {names} {text} a {s} h other p c t cs b =
     let rest = follow s.lexeme (ahead names text s.end) in
     taking s.lexeme h refl a.depth (else_or p c t cs b)
     ∙ ap (λ q. run rest (depth_after s.lexeme a.depth) q) (not-else (mark_of s.lexeme) other _ _)
     ∙ sym (taking s.lexeme h refl a.depth (cmd (when p c t ∷ cs) b))
 
-pub when-read : {names : List (List ℕ)} {text : List ℕ} {a x y z w : Progress} {old mid late new : List Row} {s n : Seen} → Begins command.If names text a s → x ≡ read_on a s → TookBracket names text x old y mid → TookBlock names text y mid z late → HereIs names text z.position.at n → (mark_of n.lexeme ≡ mark.Else → ⊥) → (new, w) ≡ told late z kind.If (pos 0) a.count s.place → TookCommand names text a old w new
+pub when-read : {names : List (List ℕ)} {text : List ℕ} {a x y z w : Progress} {old mid late new : List Row} {s n : Seen} → Begins command.If names text a s → x ≡ read_on a s → TookBracket names text x old y mid → TookBlock names text y mid z late → HereIs names text z.position.at n → (mark_of n.lexeme ≡ Some mark.Else → ⊥) → (new, w) ≡ told late z kind.If (pos 0) a.count s.place → TookCommand names text a old w new
 when-read {names} {text} {a} {x} {y} {z} {w} {old} {mid} {late} {new} {s} {n} g on head body h other row =
     let P : List Row × Progress → Type 0 = λ p. TookCommand names text a old p.1 p.0 in
     let ga : Further a x s = gone a s on in
@@ -142,7 +142,7 @@ when-read {names} {text} {a} {x} {y} {z} {w} {old} {mid} {late} {new} {s} {n} g 
       place = placed g.here;
     })
 
-pub choose-read : {names : List (List ℕ)} {text : List ℕ} {a x y z v q w : Progress} {old mid late last new : List Row} {s n : Seen} → Begins command.If names text a s → x ≡ read_on a s → TookBracket names text x old y mid → TookBlock names text y mid z late → HereIs names text z.position.at n → mark_of n.lexeme ≡ mark.Else → v ≡ read_on z n → TookBlock names text v late q last → (new, w) ≡ told last q kind.IfElse (pos 0) a.count s.place → TookCommand names text a old w new
+pub choose-read : {names : List (List ℕ)} {text : List ℕ} {a x y z v q w : Progress} {old mid late last new : List Row} {s n : Seen} → Begins command.If names text a s → x ≡ read_on a s → TookBracket names text x old y mid → TookBlock names text y mid z late → HereIs names text z.position.at n → mark_of n.lexeme ≡ Some mark.Else → v ≡ read_on z n → TookBlock names text v late q last → (new, w) ≡ told last q kind.IfElse (pos 0) a.count s.place → TookCommand names text a old w new
 choose-read {names} {text} {a} {x} {y} {z} {v} {q} {w} {old} {mid} {late} {last} {new} {s} {n} g on head body h is past other row =
     let P : List Row × Progress → Type 0 = λ p. TookCommand names text a old p.1 p.0 in
     let ga : Further a x s = gone a s on in
@@ -181,7 +181,7 @@ if-no-head {s = s} g on refusal cs b w = if-on g on cs b ∙ refusal (if_head s.
 pub if-no-block : {names : List (List ℕ)} {text : List ℕ} {a x y : Progress} {old mid : List Row} {s : Seen} {r : Refusal} → Begins command.If names text a s → x ≡ read_on a s → TookBracket names text x old y mid → ((b : Block) → Inner b → from names text y (blocking b) ≡ refused r.cause r.place) → (cs : List Command) (b : Block) → Wanting cs (ahead names text a.position.at) → from names text a (cmd cs b) ≡ refused r.cause r.place
 if-no-block {s = s} g on head refusal cs b w = if-on g on cs b ∙ head.moves (if_head s.place cs b) ∙ refusal (if_body s.place head.tree cs b) tt
 
-pub else-no-block : {names : List (List ℕ)} {text : List ℕ} {a x y z v : Progress} {old mid late : List Row} {s n : Seen} {r : Refusal} → Begins command.If names text a s → x ≡ read_on a s → TookBracket names text x old y mid → TookBlock names text y mid z late → HereIs names text z.position.at n → mark_of n.lexeme ≡ mark.Else → v ≡ read_on z n → ((b : Block) → Inner b → from names text v (blocking b) ≡ refused r.cause r.place) → (cs : List Command) (b : Block) → Wanting cs (ahead names text a.position.at) → from names text a (cmd cs b) ≡ refused r.cause r.place
+pub else-no-block : {names : List (List ℕ)} {text : List ℕ} {a x y z v : Progress} {old mid late : List Row} {s n : Seen} {r : Refusal} → Begins command.If names text a s → x ≡ read_on a s → TookBracket names text x old y mid → TookBlock names text y mid z late → HereIs names text z.position.at n → mark_of n.lexeme ≡ Some mark.Else → v ≡ read_on z n → ((b : Block) → Inner b → from names text v (blocking b) ≡ refused r.cause r.place) → (cs : List Command) (b : Block) → Wanting cs (ahead names text a.position.at) → from names text a (cmd cs b) ≡ refused r.cause r.place
 else-no-block {s = s} g on head body h is past refusal cs b w =
     if-on g on cs b ∙ head.moves (if_head s.place cs b) ∙ body.moves (if_body s.place head.tree cs b)
     ∙ else-on h is past s.place head.tree body.tree cs b ∙ refusal (else_body s.place head.tree body.tree cs b) tt
@@ -230,15 +230,7 @@ finished-inner p (c ∷ cs) (if_body q d ds b) i = refl
 finished-inner p (c ∷ cs) (else_body q d t ds b) i = refl
 finished-inner p (c ∷ cs) (while_body q d ds b) i = refl
 
-ends-text : (k : CommandStart) → EndsSheet k → (k ≡ command.CloseBlock → ⊥) → k ≡ command.End
-ends-text (command.Set x) e other = absurd e
-ends-text command.If e other = absurd e
-ends-text command.While e other = absurd e
-ends-text command.CloseBlock e other = absurd (other refl)
-ends-text command.End e other = refl
-ends-text (command.Neither c) e other = absurd e
-
-pub block_read : {names : List (List ℕ)} {text : List ℕ} {a y x z w : Progress} {old new : List Row} {s e : Seen} → Passed mark.OpenBlock names text a y s → Entered y s x → TookSheet names text x old z new → HereIs names text z.position.at e → command_of e.lexeme ≡ command.CloseBlock → w ≡ read_on z e → TookBlock names text a old (record { position = w.position; count = w.count; depth = w.depth - 1 }) new
+pub block_read : {names : List (List ℕ)} {text : List ℕ} {a y x z w : Progress} {old new : List Row} {s e : Seen} → Passed mark.OpenBlock names text a y s → Entered y s x → TookSheet names text x old z new → HereIs names text z.position.at e → command_of e.lexeme ≡ Ok command.CloseBlock → w ≡ read_on z e → TookBlock names text a old (record { position = w.position; count = w.count; depth = w.depth - 1 }) new
 block_read {names} {text} {a} {y} {x} {z} {w} {old} {new} {s} {e} p inside took h is on =
     let R : Progress → Type 0 = λ y. Entered y s x in
     let n : Entered (read_on a s) s x = subst R p.on inside in
@@ -261,10 +253,10 @@ block_read {names} {text} {a} {y} {x} {z} {w} {old} {new} {s} {e} p inside took 
       spare = omega (arith, took.wrote.few, h.forward, gz.at, gz.count);
     }
 
-pub block-open : {names : List (List ℕ)} {text : List ℕ} {a y x z : Progress} {old new : List Row} {s e : Seen} {r : Refusal} → Passed mark.OpenBlock names text a y s → Entered y s x → TookSheet names text x old z new → HereIs names text z.position.at e → (command_of e.lexeme ≡ command.CloseBlock → ⊥) → r ≡ refused_at e → (b : Block) → Inner b → from names text a (blocking b) ≡ refused r.cause r.place
+pub block-open : {names : List (List ℕ)} {text : List ℕ} {a y x z : Progress} {old new : List Row} {s e : Seen} {r : Refusal} → Passed mark.OpenBlock names text a y s → Entered y s x → TookSheet names text x old z new → HereIs names text z.position.at e → (command_of e.lexeme ≡ Ok command.CloseBlock → ⊥) → r ≡ refused_at e → (b : Block) → Inner b → from names text a (blocking b) ≡ refused r.cause r.place
 block-open {names} {text} {a} {y} {x} {z} {old} {new} {s} {e} {r} p inside took h other why b i =
     let E : List Tok → Type 0 = EndAhead in
-    let last = ends-text (command_of e.lexeme) (subst E h.tokens took.ends) other in
+    let last = ⊎_elim (λ close. absurd (other close)) (λ end. end) (sheet-ends (command_of e.lexeme) (subst E h.tokens took.ends)) in
     let same : refused_at e ≡ record { cause = Unexpected; place = e.place } = ap (λ l. refused_at (record { lexeme = l; place = e.place; end = e.end })) (end-taken last) in
     block_on p inside b ∙ took.moves [] b
     ∙ taking lexeme.End h (end-taken last) z.depth (cmd (pushed took.tree []) b)
@@ -275,41 +267,36 @@ block-open {names} {text} {a} {y} {x} {z} {old} {new} {s} {e} {r} p inside took 
 closes : (ts : List Tok) (x : Tok) (xs : List Tok) → ts ≡ x ∷ xs → EndsSheet (command_of x.lexeme) → EndAhead ts
 closes ts x xs e h = let E : List Tok → Type 0 = EndAhead in subst E (sym e) h
 
-pub closed-early : {names : List (List ℕ)} {text : List ℕ} (a : Progress) {s : Seen} → HereIs names text a.position.at s → command_of s.lexeme ≡ command.CloseBlock → (cs : List Command) (b : Block) → Wanting cs (ahead names text a.position.at) → from names text a (cmd cs b) ≡ refused Unexpected s.place
-closed-early {names} {text} a {s} h is [] b w = taking lexeme.CloseBlock h (close-block-taken is) a.depth (cmd [] b) ∙ run-refused (ahead names text s.end) _ Unexpected s.place
-closed-early {names} {text} a {s} h is (c ∷ cs) b w = absurd (w (closes _ _ _ (next lexeme.CloseBlock h (close-block-taken is)) tt))
+pub closed-early : {names : List (List ℕ)} {text : List ℕ} (a : Progress) {s : Seen} {r : Refusal} → HereIs names text a.position.at s → command_of s.lexeme ≡ Ok command.CloseBlock → r ≡ refused_at s → (cs : List Command) (b : Block) → Wanting cs (ahead names text a.position.at) → from names text a (cmd cs b) ≡ refused r.cause r.place
+closed-early {names} {text} a {s} h is why [] b w =
+    taking lexeme.CloseBlock h (close-block-taken is) a.depth (cmd [] b) ∙ run-refused (ahead names text s.end) _ Unexpected s.place
+    ∙ sym (ap (λ l. refused (refusal_of l) s.place) (close-block-taken is)) ∙ why-refused why
+closed-early {names} {text} a {s} h is why (c ∷ cs) b w = absurd (w (closes _ _ _ (next lexeme.CloseBlock h (close-block-taken is)) tt))
 
-pub ended-early : {names : List (List ℕ)} {text : List ℕ} (a : Progress) {s : Seen} → HereIs names text a.position.at s → command_of s.lexeme ≡ command.End → (cs : List Command) (b : Block) → Wanting cs (ahead names text a.position.at) → from names text a (cmd cs b) ≡ refused Unexpected s.place
-ended-early a h is [] b w = taking lexeme.End h (end-taken is) a.depth (cmd [] b)
-ended-early a h is (c ∷ cs) b w = absurd (w (closes _ _ _ (next lexeme.End h (end-taken is)) tt))
+pub ended-early : {names : List (List ℕ)} {text : List ℕ} (a : Progress) {s : Seen} {r : Refusal} → HereIs names text a.position.at s → command_of s.lexeme ≡ Ok command.End → r ≡ refused_at s → (cs : List Command) (b : Block) → Wanting cs (ahead names text a.position.at) → from names text a (cmd cs b) ≡ refused r.cause r.place
+ended-early a {s} h is why [] b w = taking lexeme.End h (end-taken is) a.depth (cmd [] b) ∙ sym (ap (λ l. refused (refusal_of l) s.place) (end-taken is)) ∙ why-refused why
+ended-early a h is why (c ∷ cs) b w = absurd (w (closes _ _ _ (next lexeme.End h (end-taken is)) tt))
 
-pub no-command : {names : List (List ℕ)} {text : List ℕ} (a : Progress) {s : Seen} (why : ReaderCause) → HereIs names text a.position.at s → command_of s.lexeme ≡ command.Neither why → (cs : List Command) (b : Block) → Wanting cs (ahead names text a.position.at) → from names text a (cmd cs b) ≡ refused why s.place
-no-command {names} {text} a {s} why h is cs b w =
-    let rest = follow s.lexeme (ahead names text s.end) in
-    taking s.lexeme h refl a.depth (cmd cs b)
-    ∙ ap (λ k. run rest (depth_after s.lexeme a.depth) (commanded k s.place cs b)) is ∙ run-refused rest _ why s.place
+pub no-command : {names : List (List ℕ)} {text : List ℕ} (a : Progress) {s : Seen} {r : Refusal} → HereIs names text a.position.at s → Err r ≡ seen_as s (command_of s.lexeme) → (cs : List Command) (b : Block) → from names text a (cmd cs b) ≡ refused r.cause r.place
+no-command a {s} {r} h e cs b =
+    let why = seen-refused s (command_of s.lexeme) e in
+    refusing h a.depth (cmd cs b) r.cause s.place (ap (λ k. commanded k s.place cs b) why.0) ∙ ap (refused r.cause) (sym why.1)
 
 -- sheets
 
-pub one-command : {names : List (List ℕ)} {text : List ℕ} {a z : Progress} {old new : List Row} {s : Seen} (k : CommandStart) → TookCommand names text a old z new → HereIs names text z.position.at s → command_of s.lexeme ≡ k → EndsSheet k → TookSheet names text a old z new
-one-command k took h is ends =
-    let E : CommandStart → Type 0 = EndsSheet in
+pub ends-sheet : {x y : Result CommandStart ReaderCause} → x ≡ y → EndsSheet y → EndsSheet x
+ends-sheet e ends = let E : Result CommandStart ReaderCause → Type 0 = EndsSheet in subst E (sym e) ends
+
+pub one-command : {names : List (List ℕ)} {text : List ℕ} {a z : Progress} {old new : List Row} {s : Seen} → TookCommand names text a old z new → HereIs names text z.position.at s → EndsSheet (command_of s.lexeme) → TookSheet names text a old z new
+one-command took h ends =
     record {
       tree = only took.tree;
       moves = took.moves;
       wrote = took.wrote;
       place = took.place;
       joints = tt;
-      ends = closes _ _ _ h.tokens (subst E (sym is) ends);
+      ends = closes _ _ _ h.tokens ends;
     }
-
-goes_on : (k : CommandStart) → (k ≡ command.CloseBlock → ⊥) → (k ≡ command.End → ⊥) → EndsSheet k → ⊥
-goes_on (command.Set x) a b e = e
-goes_on command.If a b e = e
-goes_on command.While a b e = e
-goes_on command.CloseBlock a b e = a refl
-goes_on command.End a b e = b refl
-goes_on (command.Neither c) a b e = e
 
 pub more-commands : {names : List (List ℕ)} {text : List ℕ} {a y z w : Progress} {old mid late new : List Row} {s : Seen} → TookCommand names text a old y mid → HereIs names text y.position.at s → TookSheet names text y mid z late → (new, w) ≡ told late z kind.Joint (pos 0) a.count s.place → TookSheet names text a old w new
 more-commands {names} {text} {a} {y} {z} {w} {old} {mid} {late} {new} {s} took h rest row =
@@ -323,7 +310,7 @@ more-commands {names} {text} {a} {y} {z} {w} {old} {mid} {late} {new} {s} took h
       ends = rest.ends;
     })
 
-pub rest-refused : {names : List (List ℕ)} {text : List ℕ} {a y : Progress} {old mid : List Row} {s : Seen} {r : Refusal} → TookCommand names text a old y mid → HereIs names text y.position.at s → (command_of s.lexeme ≡ command.CloseBlock → ⊥) → (command_of s.lexeme ≡ command.End → ⊥) → ((cs : List Command) (b : Block) → Wanting cs (ahead names text y.position.at) → from names text y (cmd cs b) ≡ refused r.cause r.place) → (cs : List Command) (b : Block) → Wanting cs (ahead names text a.position.at) → from names text a (cmd cs b) ≡ refused r.cause r.place
+pub rest-refused : {names : List (List ℕ)} {text : List ℕ} {a y : Progress} {old mid : List Row} {s : Seen} {r : Refusal} → TookCommand names text a old y mid → HereIs names text y.position.at s → (command_of s.lexeme ≡ Ok command.CloseBlock → ⊥) → (command_of s.lexeme ≡ Ok command.End → ⊥) → ((cs : List Command) (b : Block) → Wanting cs (ahead names text y.position.at) → from names text y (cmd cs b) ≡ refused r.cause r.place) → (cs : List Command) (b : Block) → Wanting cs (ahead names text a.position.at) → from names text a (cmd cs b) ≡ refused r.cause r.place
 rest-refused {s = s} took h inside more refusal cs b w =
     let E : List Tok → Type 0 = EndAhead in
-    took.moves cs b ∙ refusal (took.tree ∷ cs) b (λ e. goes_on (command_of s.lexeme) inside more (subst E h.tokens e))
+    took.moves cs b ∙ refusal (took.tree ∷ cs) b (λ e. ⊎_elim inside more (sheet-ends (command_of s.lexeme) (subst E h.tokens e)))

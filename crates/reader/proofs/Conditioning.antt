@@ -1,6 +1,6 @@
 -- One turn of each function that reads conditions: the machine goes from where the first part began to where the last
 -- ends, and the rows are those of the tree.
-use Rattle.std.proofs.Common.{◌≡◌, ℕ, suc, pred, ◌+◌, ◌-◌, ◌<◌, ◌≤◌, Bool, true, false, cond, List, [], ◌∷◌, length, ℤ, pos, Some, None, Ok, Err, Result, sym, refl, ap, ◌∙◌, subst, sub-one, arith, w32, to_z, of_z}
+use Rattle.std.proofs.Common.{◌≡◌, ℕ, suc, pred, ◌+◌, ◌-◌, ◌<◌, ◌≤◌, Bool, true, false, cond, List, [], ◌∷◌, length, ℤ, pos, Some, None, Ok, Err, Option, Result, sym, refl, ap, ◌∙◌, subst, sub-one, arith, w32, to_z, of_z}
 use mir.Val.{bool_byte}
 use Rattle.arith.specs.declared.comparison.Comparison.{Comparison}
 use Rattle.arith.specs.declared.comparison.Comparison.TheVariants as comparison
@@ -41,22 +41,22 @@ had-stands c ands ors u (x ∷ ts) d = refl
 -- conjuncts
 
 -- && goes on with the conjunct
-pub and-on : {names : List (List ℕ)} {text : List ℕ} {at : ℕ} {s : Seen} → HereIs names text at s → link_of s.lexeme ≡ link.And → (d : ℕ) (c : Condition) (ands ors : List Pending) (u : Purpose) → behind_literal c ands ors u (ahead names text at) d ≡ run (ahead names text s.end) d (lit [] (pending s.place c ∷ ands) ors u)
+pub and-on : {names : List (List ℕ)} {text : List ℕ} {at : ℕ} {s : Seen} → HereIs names text at s → link_of s.lexeme ≡ Some link.And → (d : ℕ) (c : Condition) (ands ors : List Pending) (u : Purpose) → behind_literal c ands ors u (ahead names text at) d ≡ run (ahead names text s.end) d (lit [] (pending s.place c ∷ ands) ors u)
 and-on h is d c ands ors u = ap (λ ts. behind_literal c ands ors u ts d) (next lexeme.And h (and-taken is))
 
-not-and : (k : Link) → (k ≡ link.And → ⊥) → (c : Condition) (ands ors : List Pending) (u : Purpose) (x : Tok) → linked k c ands ors u x ≡ linked_on k (joined both ands c) ors u x
-not-and link.And other c ands ors u x = absurd (other refl)
-not-and link.Or other c ands ors u x = refl
-not-and link.Nothing other c ands ors u x = refl
+not-and : (k : Option Link) → (k ≡ Some link.And → ⊥) → (c : Condition) (ands ors : List Pending) (u : Purpose) (x : Tok) → linked k c ands ors u x ≡ linked_on k (joined both ands c) ors u x
+not-and (Some link.And) other c ands ors u x = absurd (other refl)
+not-and (Some link.Or) other c ands ors u x = refl
+not-and None other c ands ors u x = refl
 
 -- and any other token ends it
-pub conjunct-ends : {names : List (List ℕ)} {text : List ℕ} {at : ℕ} {s : Seen} → HereIs names text at s → (link_of s.lexeme ≡ link.And → ⊥) → (d : ℕ) (c : Condition) (ands ors : List Pending) (u : Purpose) → behind_literal c ands ors u (ahead names text at) d ≡ behind_conjunct (joined both ands c) ors u (ahead names text at) d
+pub conjunct-ends : {names : List (List ℕ)} {text : List ℕ} {at : ℕ} {s : Seen} → HereIs names text at s → (link_of s.lexeme ≡ Some link.And → ⊥) → (d : ℕ) (c : Condition) (ands ors : List Pending) (u : Purpose) → behind_literal c ands ors u (ahead names text at) d ≡ behind_conjunct (joined both ands c) ors u (ahead names text at) d
 conjunct-ends {names} {text} {at} {s} h other d c ands ors u =
     ap (λ ts. behind_literal c ands ors u ts d) h.tokens
     ∙ ap (λ q. run (follow s.lexeme (ahead names text s.end)) (depth_after s.lexeme d) q) (not-and (link_of s.lexeme) other c ands ors u (tok s.place s.lexeme))
     ∙ sym (ap (λ ts. behind_conjunct (joined both ands c) ors u ts d) h.tokens)
 
-pub one-literal : {names : List (List ℕ)} {text : List ℕ} {a z : Progress} {old new : List Row} {s : Seen} → HereIs names text z.position.at s → (link_of s.lexeme ≡ link.And → ⊥) → TookLiteral names text a old z new → TookConjunct names text a old z new
+pub one-literal : {names : List (List ℕ)} {text : List ℕ} {a z : Progress} {old new : List Row} {s : Seen} → HereIs names text z.position.at s → (link_of s.lexeme ≡ Some link.And → ⊥) → TookLiteral names text a old z new → TookConjunct names text a old z new
 one-literal {z = z} h other took =
     record {
       tree = took.tree;
@@ -64,7 +64,7 @@ one-literal {z = z} h other took =
       wrote = took.wrote;
     }
 
-pub two-literals : {names : List (List ℕ)} {text : List ℕ} {a y x z w : Progress} {old mid late new : List Row} {s : Seen} → HereIs names text y.position.at s → link_of s.lexeme ≡ link.And → TookLiteral names text a old y mid → x ≡ read_on y s → TookConjunct names text x mid z late → (new, w) ≡ told late z kind.And (pos 0) a.count s.place → TookConjunct names text a old w new
+pub two-literals : {names : List (List ℕ)} {text : List ℕ} {a y x z w : Progress} {old mid late new : List Row} {s : Seen} → HereIs names text y.position.at s → link_of s.lexeme ≡ Some link.And → TookLiteral names text a old y mid → x ≡ read_on y s → TookConjunct names text x mid z late → (new, w) ≡ told late z kind.And (pos 0) a.count s.place → TookConjunct names text a old w new
 two-literals {names} {text} {a} {y} {x} {z} {w} {old} {mid} {late} {new} {s} h is took on more e =
     let N : Progress → Type 0 = λ x. TookConjunct names text x mid z late in
     let next : TookConjunct names text (read_on y s) mid z late = subst N on more in
@@ -80,23 +80,23 @@ two-literals {names} {text} {a} {y} {x} {z} {w} {old} {mid} {late} {new} {s} h i
 -- conditions
 
 -- || goes on with the condition
-pub or-on : {names : List (List ℕ)} {text : List ℕ} {at : ℕ} {s : Seen} → HereIs names text at s → link_of s.lexeme ≡ link.Or → (d : ℕ) (c : Condition) (ors : List Pending) (u : Purpose) → behind_conjunct c ors u (ahead names text at) d ≡ run (ahead names text s.end) d (lit [] [] (pending s.place c ∷ ors) u)
+pub or-on : {names : List (List ℕ)} {text : List ℕ} {at : ℕ} {s : Seen} → HereIs names text at s → link_of s.lexeme ≡ Some link.Or → (d : ℕ) (c : Condition) (ors : List Pending) (u : Purpose) → behind_conjunct c ors u (ahead names text at) d ≡ run (ahead names text s.end) d (lit [] [] (pending s.place c ∷ ors) u)
 or-on h is d c ors u = ap (λ ts. behind_conjunct c ors u ts d) (next lexeme.Or h (or-taken is))
 
-not-or : (k : Link) (l : Lexeme) → link_of l ≡ k → (k ≡ link.Or → ⊥) → (p : ℕ) (c : Condition) (ors : List Pending) (u : Purpose) → linked_on k c ors u (tok p l) ≡ closing (joined either ors c) u (tok p l)
-not-or link.And l e other p c ors u =
+not-or : (k : Option Link) (l : Lexeme) → link_of l ≡ k → (k ≡ Some link.Or → ⊥) → (p : ℕ) (c : Condition) (ors : List Pending) (u : Purpose) → linked_on k c ors u (tok p l) ≡ closing (joined either ors c) u (tok p l)
+not-or (Some link.And) l e other p c ors u =
     let P : Lexeme → Type 0 = λ l. refuse (tok p l) ≡ closing (joined either ors c) u (tok p l) in
     subst P (sym (and-taken e)) refl
-not-or link.Or l e other p c ors u = absurd (other refl)
-not-or link.Nothing l e other p c ors u = refl
+not-or (Some link.Or) l e other p c ors u = absurd (other refl)
+not-or None l e other p c ors u = refl
 
-pub condition-ends : {names : List (List ℕ)} {text : List ℕ} {at : ℕ} {s : Seen} → HereIs names text at s → (link_of s.lexeme ≡ link.Or → ⊥) → (d : ℕ) (c : Condition) (ors : List Pending) (u : Purpose) → behind_conjunct c ors u (ahead names text at) d ≡ behind_condition (joined either ors c) u (ahead names text at) d
+pub condition-ends : {names : List (List ℕ)} {text : List ℕ} {at : ℕ} {s : Seen} → HereIs names text at s → (link_of s.lexeme ≡ Some link.Or → ⊥) → (d : ℕ) (c : Condition) (ors : List Pending) (u : Purpose) → behind_conjunct c ors u (ahead names text at) d ≡ behind_condition (joined either ors c) u (ahead names text at) d
 condition-ends {names} {text} {at} {s} h other d c ors u =
     ap (λ ts. behind_conjunct c ors u ts d) h.tokens
     ∙ ap (λ q. run (follow s.lexeme (ahead names text s.end)) (depth_after s.lexeme d) q) (not-or (link_of s.lexeme) s.lexeme refl other s.place c ors u)
     ∙ sym (ap (λ ts. behind_condition (joined either ors c) u ts d) h.tokens)
 
-pub one-conjunct : {names : List (List ℕ)} {text : List ℕ} {a z : Progress} {old new : List Row} {s : Seen} → HereIs names text z.position.at s → (link_of s.lexeme ≡ link.Or → ⊥) → TookConjunct names text a old z new → TookCondition names text a old z new
+pub one-conjunct : {names : List (List ℕ)} {text : List ℕ} {a z : Progress} {old new : List Row} {s : Seen} → HereIs names text z.position.at s → (link_of s.lexeme ≡ Some link.Or → ⊥) → TookConjunct names text a old z new → TookCondition names text a old z new
 one-conjunct {z = z} h other took =
     record {
       tree = took.tree;
@@ -104,7 +104,7 @@ one-conjunct {z = z} h other took =
       wrote = took.wrote;
     }
 
-pub two-conjuncts : {names : List (List ℕ)} {text : List ℕ} {a y x z w : Progress} {old mid late new : List Row} {s : Seen} → HereIs names text y.position.at s → link_of s.lexeme ≡ link.Or → TookConjunct names text a old y mid → x ≡ read_on y s → TookCondition names text x mid z late → (new, w) ≡ told late z kind.Or (pos 0) a.count s.place → TookCondition names text a old w new
+pub two-conjuncts : {names : List (List ℕ)} {text : List ℕ} {a y x z w : Progress} {old mid late new : List Row} {s : Seen} → HereIs names text y.position.at s → link_of s.lexeme ≡ Some link.Or → TookConjunct names text a old y mid → x ≡ read_on y s → TookCondition names text x mid z late → (new, w) ≡ told late z kind.Or (pos 0) a.count s.place → TookCondition names text a old w new
 two-conjuncts {names} {text} {a} {y} {x} {z} {w} {old} {mid} {late} {new} {s} h is took on more e =
     let N : Progress → Type 0 = λ x. TookCondition names text x mid z late in
     let next : TookCondition names text (read_on y s) mid z late = subst N on more in
@@ -278,13 +278,13 @@ bracket-read {names} {text} {a} {y} {x} {z} {w} {old} {new} {s} {t} p inside too
 
 -- refusals of the parts
 
-pub conjunct-refused : {names : List (List ℕ)} {text : List ℕ} {a y x : Progress} {old mid : List Row} {s : Seen} {r : Refusal} → HereIs names text y.position.at s → link_of s.lexeme ≡ link.And → TookLiteral names text a old y mid → x ≡ read_on y s → ((ands ors : List Pending) (u : Purpose) → from names text x (lit [] ands ors u) ≡ refused r.cause r.place) → (ands ors : List Pending) (u : Purpose) → from names text a (lit [] ands ors u) ≡ refused r.cause r.place
+pub conjunct-refused : {names : List (List ℕ)} {text : List ℕ} {a y x : Progress} {old mid : List Row} {s : Seen} {r : Refusal} → HereIs names text y.position.at s → link_of s.lexeme ≡ Some link.And → TookLiteral names text a old y mid → x ≡ read_on y s → ((ands ors : List Pending) (u : Purpose) → from names text x (lit [] ands ors u) ≡ refused r.cause r.place) → (ands ors : List Pending) (u : Purpose) → from names text a (lit [] ands ors u) ≡ refused r.cause r.place
 conjunct-refused {names} {text} {a} {y} {x} {old} {mid} {s} {r} h is took on refusal ands ors u =
     took.moves [] ands ors u ∙ and-on h is y.depth took.tree ands ors u
     ∙ sym (ap (λ (x : Progress). from names text x (lit [] (pending s.place took.tree ∷ ands) ors u)) on)
     ∙ refusal (pending s.place took.tree ∷ ands) ors u
 
-pub condition-refused : {names : List (List ℕ)} {text : List ℕ} {a y x : Progress} {old mid : List Row} {s : Seen} {r : Refusal} → HereIs names text y.position.at s → link_of s.lexeme ≡ link.Or → TookConjunct names text a old y mid → x ≡ read_on y s → ((ors : List Pending) (u : Purpose) → from names text x (lit [] [] ors u) ≡ refused r.cause r.place) → (ors : List Pending) (u : Purpose) → from names text a (lit [] [] ors u) ≡ refused r.cause r.place
+pub condition-refused : {names : List (List ℕ)} {text : List ℕ} {a y x : Progress} {old mid : List Row} {s : Seen} {r : Refusal} → HereIs names text y.position.at s → link_of s.lexeme ≡ Some link.Or → TookConjunct names text a old y mid → x ≡ read_on y s → ((ors : List Pending) (u : Purpose) → from names text x (lit [] [] ors u) ≡ refused r.cause r.place) → (ors : List Pending) (u : Purpose) → from names text a (lit [] [] ors u) ≡ refused r.cause r.place
 condition-refused {names} {text} {a} {y} {x} {old} {mid} {s} {r} h is took on refusal ors u =
     took.moves [] ors u ∙ or-on h is y.depth took.tree ors u
     ∙ sym (ap (λ (x : Progress). from names text x (lit [] [] (pending s.place took.tree ∷ ors) u)) on)

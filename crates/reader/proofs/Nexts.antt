@@ -1,175 +1,106 @@
--- The next token, once it was seen, and what was seen, once it was taken: each of the tables by which reading goes on
--- tells the lexeme that it takes.
-use Rattle.std.proofs.Common.{◌≡◌, ℕ, ◌<◌, Bool, List, ◌∷◌, ℤ, Some, None, Option, sym, refl, ap, ◌∙◌, subst}
+-- The next token, once it was seen, and what was seen, once it was taken or refused.
+use Rattle.std.proofs.Common.{◌≡◌, ℕ, ◌<◌, Bool, ◌⊎◌, inl, inr, List, ◌∷◌, ℤ, Some, Ok, Err, Result, sym, refl, ap, ◌∙◌, subst, arith}
 use Rattle.faults.specs.declared.causes.ReaderCause.{ReaderCause}
 use Rattle.arith.specs.declared.operator.Operator.{Operator}
 use Rattle.arith.specs.declared.comparison.Comparison.{Comparison}
 use Rattle.grammar.specs.declared.lexeme.Lexeme.{Lexeme}
 use Rattle.grammar.specs.declared.lexeme.Lexeme.TheVariants as lexeme
-use Rattle.grammar.specs.declared.choice.Operand.{Operand}
 use Rattle.grammar.specs.declared.choice.Operand.TheVariants as operand
-use Rattle.grammar.specs.declared.choice.Join.{Join}
 use Rattle.grammar.specs.declared.choice.Join.TheVariants as join
-use Rattle.grammar.specs.declared.choice.LiteralStart.{LiteralStart}
 use Rattle.grammar.specs.declared.choice.LiteralStart.TheVariants as literal
-use Rattle.grammar.specs.declared.choice.Link.{Link}
 use Rattle.grammar.specs.declared.choice.Link.TheVariants as link
 use Rattle.grammar.specs.declared.choice.CommandStart.{CommandStart}
 use Rattle.grammar.specs.declared.choice.CommandStart.TheVariants as command
-use Rattle.grammar.specs.declared.choice.Mark.{Mark}
 use Rattle.grammar.specs.declared.choice.Mark.TheVariants as mark
 use Rattle.grammar.specs.Choices.{operand_of, join_of, comparison_of, literal_of, link_of, command_of, mark_of, depth_after}
 use Rattle.grammar.specs.Lexemes.{Tok, tok}
 use Rattle.grammar.specs.Machine.{State, refused, step, run}
+use Rattle.grammar.proofs.Backwards.{operand-back, join-back, comparison-back, literal-back, link-back, command-back, mark-back}
 use Rattle.grammar.proofs.Lexing.{run-refused}
 use Rattle.reader.specs.declared.seen.Seen.{Seen}
-use Rattle.reader.specs.Ahead.{ahead, follow, HereIs}
-
--- a lexeme by what it is taken for, or as it was
-
-abbrev operand_back : Operand → Lexeme → Lexeme
-operand_back (operand.Number v) l = lexeme.Number v
-operand_back (operand.Name x) l = lexeme.Name x
-operand_back operand.Bracket l = lexeme.Open
-operand_back (operand.Neither c) l = l
-
-abbrev join_back : Join → Lexeme → Lexeme
-join_back (join.Additive o) l = lexeme.Additive o
-join_back (join.Multiplicative o) l = lexeme.Multiplicative o
-join_back join.Nothing l = l
-
-abbrev comparison_back : Option Comparison → Lexeme → Lexeme
-comparison_back (Some c) l = lexeme.Compare c
-comparison_back None l = l
-
-abbrev literal_back : LiteralStart → Lexeme → Lexeme
-literal_back (literal.Truth b) l = lexeme.Truth b
-literal_back literal.Not l = lexeme.Not
-literal_back literal.Bracket l = lexeme.Open
-literal_back literal.Sum l = l
-
-abbrev link_back : Link → Lexeme → Lexeme
-link_back link.And l = lexeme.And
-link_back link.Or l = lexeme.Or
-link_back link.Nothing l = l
-
-abbrev command_back : CommandStart → Lexeme → Lexeme
-command_back (command.Set x) l = lexeme.Name x
-command_back command.If l = lexeme.If
-command_back command.While l = lexeme.While
-command_back command.CloseBlock l = lexeme.CloseBlock
-command_back command.End l = lexeme.End
-command_back (command.Neither c) l = l
-
-abbrev mark_back : Mark → Lexeme → Lexeme
-mark_back mark.Else l = lexeme.Else
-mark_back mark.Open l = lexeme.Open
-mark_back mark.Close l = lexeme.Close
-mark_back mark.OpenBlock l = lexeme.OpenBlock
-mark_back mark.Semicolon l = lexeme.Semicolon
-mark_back mark.Becomes l = lexeme.Becomes
-mark_back mark.Other l = l
-
-record Back (l : Lexeme) : Type 0 where
-  operand-back : l ≡ operand_back (operand_of l) l
-  join-back : l ≡ join_back (join_of l) l
-  comparison-back : l ≡ comparison_back (comparison_of l) l
-  literal-back : l ≡ literal_back (literal_of l) l
-  link-back : l ≡ link_back (link_of l) l
-  command-back : l ≡ command_back (command_of l) l
-  mark-back : l ≡ mark_back (mark_of l) l
-
-back : (l : Lexeme) → Back l
-back (lexeme.Number v) = record { operand-back = refl; join-back = refl; comparison-back = refl; literal-back = refl; link-back = refl; command-back = refl; mark-back = refl }
-back lexeme.TooLarge = record { operand-back = refl; join-back = refl; comparison-back = refl; literal-back = refl; link-back = refl; command-back = refl; mark-back = refl }
-back (lexeme.Name x) = record { operand-back = refl; join-back = refl; comparison-back = refl; literal-back = refl; link-back = refl; command-back = refl; mark-back = refl }
-back lexeme.Unlisted = record { operand-back = refl; join-back = refl; comparison-back = refl; literal-back = refl; link-back = refl; command-back = refl; mark-back = refl }
-back (lexeme.Truth b) = record { operand-back = refl; join-back = refl; comparison-back = refl; literal-back = refl; link-back = refl; command-back = refl; mark-back = refl }
-back lexeme.If = record { operand-back = refl; join-back = refl; comparison-back = refl; literal-back = refl; link-back = refl; command-back = refl; mark-back = refl }
-back lexeme.Else = record { operand-back = refl; join-back = refl; comparison-back = refl; literal-back = refl; link-back = refl; command-back = refl; mark-back = refl }
-back lexeme.While = record { operand-back = refl; join-back = refl; comparison-back = refl; literal-back = refl; link-back = refl; command-back = refl; mark-back = refl }
-back (lexeme.Additive o) = record { operand-back = refl; join-back = refl; comparison-back = refl; literal-back = refl; link-back = refl; command-back = refl; mark-back = refl }
-back (lexeme.Multiplicative o) = record { operand-back = refl; join-back = refl; comparison-back = refl; literal-back = refl; link-back = refl; command-back = refl; mark-back = refl }
-back (lexeme.Compare c) = record { operand-back = refl; join-back = refl; comparison-back = refl; literal-back = refl; link-back = refl; command-back = refl; mark-back = refl }
-back lexeme.Not = record { operand-back = refl; join-back = refl; comparison-back = refl; literal-back = refl; link-back = refl; command-back = refl; mark-back = refl }
-back lexeme.And = record { operand-back = refl; join-back = refl; comparison-back = refl; literal-back = refl; link-back = refl; command-back = refl; mark-back = refl }
-back lexeme.Or = record { operand-back = refl; join-back = refl; comparison-back = refl; literal-back = refl; link-back = refl; command-back = refl; mark-back = refl }
-back lexeme.Open = record { operand-back = refl; join-back = refl; comparison-back = refl; literal-back = refl; link-back = refl; command-back = refl; mark-back = refl }
-back lexeme.Close = record { operand-back = refl; join-back = refl; comparison-back = refl; literal-back = refl; link-back = refl; command-back = refl; mark-back = refl }
-back lexeme.OpenBlock = record { operand-back = refl; join-back = refl; comparison-back = refl; literal-back = refl; link-back = refl; command-back = refl; mark-back = refl }
-back lexeme.CloseBlock = record { operand-back = refl; join-back = refl; comparison-back = refl; literal-back = refl; link-back = refl; command-back = refl; mark-back = refl }
-back lexeme.Semicolon = record { operand-back = refl; join-back = refl; comparison-back = refl; literal-back = refl; link-back = refl; command-back = refl; mark-back = refl }
-back lexeme.Becomes = record { operand-back = refl; join-back = refl; comparison-back = refl; literal-back = refl; link-back = refl; command-back = refl; mark-back = refl }
-back lexeme.End = record { operand-back = refl; join-back = refl; comparison-back = refl; literal-back = refl; link-back = refl; command-back = refl; mark-back = refl }
-back lexeme.Stray = record { operand-back = refl; join-back = refl; comparison-back = refl; literal-back = refl; link-back = refl; command-back = refl; mark-back = refl }
+use Rattle.reader.specs.declared.seen.Refusal.{Refusal}
+use Rattle.reader.specs.Ahead.{ahead, follow, HereIs, seen_as}
+use Rattle.reader.specs.Ordering.{EndsSheet}
 
 -- the lexemes that are taken
 
-pub number-taken : {l : Lexeme} {v : ℤ} → operand_of l ≡ operand.Number v → l ≡ lexeme.Number v
-number-taken {l} e = (back l).operand-back ∙ ap (λ c. operand_back c l) e
+pub number-taken : {l : Lexeme} {v : ℤ} → operand_of l ≡ Ok (operand.Number v) → l ≡ lexeme.Number v
+number-taken {l} e = operand-back l e
 
-pub name-taken : {l : Lexeme} {x : ℕ} → operand_of l ≡ operand.Name x → l ≡ lexeme.Name x
-name-taken {l} e = (back l).operand-back ∙ ap (λ c. operand_back c l) e
+pub name-taken : {l : Lexeme} {x : ℕ} → operand_of l ≡ Ok (operand.Name x) → l ≡ lexeme.Name x
+name-taken {l} e = operand-back l e
 
-pub bracket-taken : {l : Lexeme} → operand_of l ≡ operand.Bracket → l ≡ lexeme.Open
-bracket-taken {l} e = (back l).operand-back ∙ ap (λ c. operand_back c l) e
+pub bracket-taken : {l : Lexeme} → operand_of l ≡ Ok operand.Bracket → l ≡ lexeme.Open
+bracket-taken {l} e = operand-back l e
 
-pub additive-taken : {l : Lexeme} {o : Operator} → join_of l ≡ join.Additive o → l ≡ lexeme.Additive o
-additive-taken {l} e = (back l).join-back ∙ ap (λ c. join_back c l) e
+pub additive-taken : {l : Lexeme} {o : Operator} → join_of l ≡ Some (join.Additive o) → l ≡ lexeme.Additive o
+additive-taken {l} e = join-back l e
 
-pub multiplicative-taken : {l : Lexeme} {o : Operator} → join_of l ≡ join.Multiplicative o → l ≡ lexeme.Multiplicative o
-multiplicative-taken {l} e = (back l).join-back ∙ ap (λ c. join_back c l) e
+pub multiplicative-taken : {l : Lexeme} {o : Operator} → join_of l ≡ Some (join.Multiplicative o) → l ≡ lexeme.Multiplicative o
+multiplicative-taken {l} e = join-back l e
 
 pub comparison-taken : {l : Lexeme} {c : Comparison} → comparison_of l ≡ Some c → l ≡ lexeme.Compare c
-comparison-taken {l} e = (back l).comparison-back ∙ ap (λ c. comparison_back c l) e
+comparison-taken {l} e = comparison-back l e
 
 pub truth-taken : {l : Lexeme} {b : Bool} → literal_of l ≡ literal.Truth b → l ≡ lexeme.Truth b
-truth-taken {l} e = (back l).literal-back ∙ ap (λ c. literal_back c l) e
+truth-taken {l} e = literal-back l e
 
 pub not_taken : {l : Lexeme} → literal_of l ≡ literal.Not → l ≡ lexeme.Not
-not_taken {l} e = (back l).literal-back ∙ ap (λ c. literal_back c l) e
+not_taken {l} e = literal-back l e
 
 pub literal-bracket-taken : {l : Lexeme} → literal_of l ≡ literal.Bracket → l ≡ lexeme.Open
-literal-bracket-taken {l} e = (back l).literal-back ∙ ap (λ c. literal_back c l) e
+literal-bracket-taken {l} e = literal-back l e
 
-pub and-taken : {l : Lexeme} → link_of l ≡ link.And → l ≡ lexeme.And
-and-taken {l} e = (back l).link-back ∙ ap (λ c. link_back c l) e
+pub and-taken : {l : Lexeme} → link_of l ≡ Some link.And → l ≡ lexeme.And
+and-taken {l} e = link-back l e
 
-pub or-taken : {l : Lexeme} → link_of l ≡ link.Or → l ≡ lexeme.Or
-or-taken {l} e = (back l).link-back ∙ ap (λ c. link_back c l) e
+pub or-taken : {l : Lexeme} → link_of l ≡ Some link.Or → l ≡ lexeme.Or
+or-taken {l} e = link-back l e
 
-pub set-taken : {l : Lexeme} {x : ℕ} → command_of l ≡ command.Set x → l ≡ lexeme.Name x
-set-taken {l} e = (back l).command-back ∙ ap (λ c. command_back c l) e
+pub set-taken : {l : Lexeme} {x : ℕ} → command_of l ≡ Ok (command.Set x) → l ≡ lexeme.Name x
+set-taken {l} e = command-back l e
 
-pub if-taken : {l : Lexeme} → command_of l ≡ command.If → l ≡ lexeme.If
-if-taken {l} e = (back l).command-back ∙ ap (λ c. command_back c l) e
+pub if-taken : {l : Lexeme} → command_of l ≡ Ok command.If → l ≡ lexeme.If
+if-taken {l} e = command-back l e
 
-pub while-taken : {l : Lexeme} → command_of l ≡ command.While → l ≡ lexeme.While
-while-taken {l} e = (back l).command-back ∙ ap (λ c. command_back c l) e
+pub while-taken : {l : Lexeme} → command_of l ≡ Ok command.While → l ≡ lexeme.While
+while-taken {l} e = command-back l e
 
-pub close-block-taken : {l : Lexeme} → command_of l ≡ command.CloseBlock → l ≡ lexeme.CloseBlock
-close-block-taken {l} e = (back l).command-back ∙ ap (λ c. command_back c l) e
+pub close-block-taken : {l : Lexeme} → command_of l ≡ Ok command.CloseBlock → l ≡ lexeme.CloseBlock
+close-block-taken {l} e = command-back l e
 
-pub end-taken : {l : Lexeme} → command_of l ≡ command.End → l ≡ lexeme.End
-end-taken {l} e = (back l).command-back ∙ ap (λ c. command_back c l) e
+pub end-taken : {l : Lexeme} → command_of l ≡ Ok command.End → l ≡ lexeme.End
+end-taken {l} e = command-back l e
 
-pub else-taken : {l : Lexeme} → mark_of l ≡ mark.Else → l ≡ lexeme.Else
-else-taken {l} e = (back l).mark-back ∙ ap (λ c. mark_back c l) e
+pub else-taken : {l : Lexeme} → mark_of l ≡ Some mark.Else → l ≡ lexeme.Else
+else-taken {l} e = mark-back l e
 
-pub open-taken : {l : Lexeme} → mark_of l ≡ mark.Open → l ≡ lexeme.Open
-open-taken {l} e = (back l).mark-back ∙ ap (λ c. mark_back c l) e
+pub open-taken : {l : Lexeme} → mark_of l ≡ Some mark.Open → l ≡ lexeme.Open
+open-taken {l} e = mark-back l e
 
-pub close-taken : {l : Lexeme} → mark_of l ≡ mark.Close → l ≡ lexeme.Close
-close-taken {l} e = (back l).mark-back ∙ ap (λ c. mark_back c l) e
+pub close-taken : {l : Lexeme} → mark_of l ≡ Some mark.Close → l ≡ lexeme.Close
+close-taken {l} e = mark-back l e
 
-pub open-block-taken : {l : Lexeme} → mark_of l ≡ mark.OpenBlock → l ≡ lexeme.OpenBlock
-open-block-taken {l} e = (back l).mark-back ∙ ap (λ c. mark_back c l) e
+pub open-block-taken : {l : Lexeme} → mark_of l ≡ Some mark.OpenBlock → l ≡ lexeme.OpenBlock
+open-block-taken {l} e = mark-back l e
 
-pub semicolon-taken : {l : Lexeme} → mark_of l ≡ mark.Semicolon → l ≡ lexeme.Semicolon
-semicolon-taken {l} e = (back l).mark-back ∙ ap (λ c. mark_back c l) e
+pub semicolon-taken : {l : Lexeme} → mark_of l ≡ Some mark.Semicolon → l ≡ lexeme.Semicolon
+semicolon-taken {l} e = mark-back l e
 
-pub becomes-taken : {l : Lexeme} → mark_of l ≡ mark.Becomes → l ≡ lexeme.Becomes
-becomes-taken {l} e = (back l).mark-back ∙ ap (λ c. mark_back c l) e
+pub becomes-taken : {l : Lexeme} → mark_of l ≡ Some mark.Becomes → l ≡ lexeme.Becomes
+becomes-taken {l} e = mark-back l e
+
+-- what was taken at a place, or refused there
+
+pub seen-taken : {A : Type 0} (s : Seen) (x : Result A ReaderCause) {y z : A} → Ok y ≡ seen_as s x → y ≡ z → x ≡ Ok z
+seen-taken s (Ok v) {y} {z} e is = let same : v ≡ z = cc in ap Ok same
+seen-taken s (Err c) e is = absurd (let z : ◌≡◌ {A = ℕ} 0 1 = cc in omega arith)
+
+pub seen-refused : {A : Type 0} (s : Seen) (x : Result A ReaderCause) {r : Refusal} → Err r ≡ seen_as s x → (x ≡ Err r.cause) × (r.place ≡ s.place)
+seen-refused s (Ok z) e = absurd (let z : ◌≡◌ {A = ℕ} 0 1 = cc in omega arith)
+seen-refused s (Err c) {r} e =
+    let same : r ≡ record { cause = c; place = s.place } = cc in
+    (sym (ap (λ (r : Refusal). Err r.cause) same), ap (λ (r : Refusal). r.place) same)
 
 -- all lexemes but the end have a byte
 
@@ -213,3 +144,12 @@ pub refusing : {names : List (List ℕ)} {text : List ℕ} {at : ℕ} {s : Seen}
 refusing {names} {text} {at} {s} h d m c p e =
     let rest : List Tok = follow s.lexeme (ahead names text s.end) in
     taking s.lexeme h refl d m ∙ ap (λ q. run rest (depth_after s.lexeme d) q) e ∙ run-refused rest (depth_after s.lexeme d) c p
+
+-- what ends a sheet: the end of its block, or of the text
+pub sheet-ends : (k : Result CommandStart ReaderCause) → EndsSheet k → (k ≡ Ok command.CloseBlock) ⊎ (k ≡ Ok command.End)
+sheet-ends (Ok (command.Set x)) e = absurd e
+sheet-ends (Ok command.If) e = absurd e
+sheet-ends (Ok command.While) e = absurd e
+sheet-ends (Ok command.CloseBlock) e = inl refl
+sheet-ends (Ok command.End) e = inr refl
+sheet-ends (Err c) e = absurd e

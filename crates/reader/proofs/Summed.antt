@@ -1,5 +1,6 @@
 -- One turn of each of the functions that read sums.
-use Rattle.std.proofs.Common.{◌≡◌, ℕ, suc, pred, ◌+◌, ◌-◌, ◌<◌, ◌≤◌, List, length, ℤ, pos, sym, refl, ap, ◌∙◌, subst, arith}
+use Rattle.std.proofs.Common.{◌≡◌, ℕ, suc, pred, ◌+◌, ◌-◌, ◌<◌, ◌≤◌, List, length, ℤ, pos, Some, None, Ok, Err, Option, sym, refl, ap, ◌∙◌, subst, arith, w32, to_z}
+use Rattle.std.proofs.lemmas.Int.{to_z_pos}
 use Rattle.faults.specs.declared.causes.ReaderCause.{ReaderCause}
 use Rattle.faults.specs.declared.causes.ReaderCause.TheVariants.{TooManyOpen}
 use Rattle.arith.specs.declared.operator.Operator.{Operator}
@@ -21,11 +22,11 @@ use Rattle.grammar.proofs.Lexing.{run-refused}
 use Rattle.reader.specs.declared.seen.Seen.{Seen}
 use Rattle.reader.specs.declared.seen.Refusal.{Refusal}
 use Rattle.reader.specs.declared.progress.Progress.{Progress}
-use Rattle.reader.specs.Ahead.{ahead, follow, HereIs}
+use Rattle.reader.specs.Ahead.{ahead, follow, HereIs, seen_as}
 use Rattle.reader.specs.Progressing.{told, told_leaf, read_on, Passed, Missed, Wrote, from}
 use Rattle.reader.specs.Summing.{behind_sum, NoFactor, NoProd, SumSoFar, TookSum, TookProd, TookFactor}
 use Rattle.reader.proofs.Entering.{Entered, Barred}
-use Rattle.reader.proofs.Nexts.{number-taken, name-taken, bracket-taken, additive-taken, multiplicative-taken, close-taken, further, taking, refusing}
+use Rattle.reader.proofs.Nexts.{number-taken, name-taken, bracket-taken, additive-taken, multiplicative-taken, close-taken, further, taking, refusing, seen-refused}
 use Rattle.reader.proofs.Writing.{sum-long, before, within-told, leaf-told, two-told}
 
 -- a row for two sums, the sign's byte pays for it
@@ -38,15 +39,15 @@ worked {text} {a} {y} {y'} {z} {z'} {old} {mid} {late} {new} s o {c} {first} l r
     let spare : suc (z.count + a.position.at) ≤ z.position.at + a.count = omega (arith, v.few, w.few) in
     two-told (operator_kind o) (pos 0) s.place (sum_size l) (sum_size r) (e ∙ ap (λ k. told late z k (pos 0) first s.place) ec ∙ ap (λ n. told late z (operator_kind o) (pos 0) n s.place) ef) v (before y yc yd le w) (sum-long l) (sum-long r) spare
 
-nothing-joins : (j : Join) → NoFactor j → ((o : Operator) → j ≡ join.Additive o → ⊥) → j ≡ join.Nothing
-nothing-joins (join.Additive o) f n = absurd (n o refl)
-nothing-joins (join.Multiplicative o) f n = absurd f
-nothing-joins join.Nothing f n = refl
+nothing-joins : (j : Option Join) → NoFactor j → ((o : Operator) → j ≡ Some (join.Additive o) → ⊥) → j ≡ None
+nothing-joins (Some (join.Additive o)) f n = absurd (n o refl)
+nothing-joins (Some (join.Multiplicative o)) f n = absurd f
+nothing-joins None f n = refl
 
 module _ {names : List (List ℕ)} {text : List ℕ} where
   -- a factor of one token
 
-  pub number_read : {a z : Progress} {old new : List Row} {s : Seen} {v : ℤ} → HereIs names text a.position.at s → operand_of s.lexeme ≡ operand.Number v → a.position.at ≤ length text → (u : ℤ) → u ≡ v → (new, z) ≡ told_leaf old a kind.Number u s → TookFactor names text a old z new
+  pub number_read : {a z : Progress} {old new : List Row} {s : Seen} {v : ℤ} → HereIs names text a.position.at s → operand_of s.lexeme ≡ Ok (operand.Number v) → a.position.at ≤ length text → (u : ℤ) → u ≡ v → (new, z) ≡ told_leaf old a kind.Number u s → TookFactor names text a old z new
   number_read {a} {z} {old} {new} {s} {v} h e in-text u is told_is =
       let P : List Row × Progress → Type 0 = λ p. TookFactor names text a old p.1 p.0 in
       let l : s.lexeme ≡ lexeme.Number v = number-taken e in
@@ -56,33 +57,36 @@ module _ {names : List (List ℕ)} {text : List ℕ} where
         wrote = leaf-told a kind.Number v s refl (further (lexeme.Number v) h l tt) (h.within in-text);
       })
 
-  pub name-read : {a z : Progress} {old new : List Row} {s : Seen} {x : ℕ} → HereIs names text a.position.at s → operand_of s.lexeme ≡ operand.Name x → a.position.at ≤ length text → (u : ℤ) → u ≡ pos x → (new, z) ≡ told_leaf old a kind.Name u s → TookFactor names text a old z new
-  name-read {a} {z} {old} {new} {s} {x} h e in-text u is told_is =
+  pub name-read : {a z : Progress} {old new : List Row} {s : Seen} {x : ℕ} → HereIs names text a.position.at s → operand_of s.lexeme ≡ Ok (operand.Name x) → a.position.at ≤ length text → length names ≤ 64 → (new, z) ≡ told_leaf old a kind.Name (to_z w32 x) s → TookFactor names text a old z new
+  name-read {a} {z} {old} {new} {s} {x} h e in-text few told_is =
       let P : List Row × Progress → Type 0 = λ p. TookFactor names text a old p.1 p.0 in
       let l : s.lexeme ≡ lexeme.Name x = name-taken e in
-      subst P (sym (told_is ∙ ap (λ w. told_leaf old a kind.Name w s) is)) (record {
+      let small : to_z w32 x ≡ pos x = to_z_pos w32 x (omega (arith, h.named x l)) in
+      subst P (sym (told_is ∙ ap (λ w. told_leaf old a kind.Name w s) small)) (record {
         tree = name s.place x;
         moves = λ t m k. taking (lexeme.Name x) h l a.depth (want t m k);
         wrote = leaf-told a kind.Name (pos x) s refl (further (lexeme.Name x) h l tt) (h.within in-text);
       })
 
-  pub no-factor : (a : Progress) {s : Seen} {c : ReaderCause} → HereIs names text a.position.at s → operand_of s.lexeme ≡ operand.Neither c → (t m : Left) (k : Use) → from names text a (want t m k) ≡ refused c s.place
-  no-factor a {s} {c} h e t m k = refusing h a.depth (want t m k) c s.place (ap (λ o. wanted a.depth s.place o t m k) e)
+  pub no-factor : (a : Progress) {s : Seen} {r : Refusal} → HereIs names text a.position.at s → Err r ≡ seen_as s (operand_of s.lexeme) → (t m : Left) (k : Use) → from names text a (want t m k) ≡ refused r.cause r.place
+  no-factor a {s} {r} h e t m k =
+      let why = seen-refused s (operand_of s.lexeme) e in
+      refusing h a.depth (want t m k) r.cause s.place (ap (λ o. wanted a.depth s.place o t m k) why.0) ∙ ap (refused r.cause) (sym why.1)
 
   -- a sum in brackets
 
-  pub bracket-barred : {a : Progress} {s : Seen} {r : Refusal} → HereIs names text a.position.at s → operand_of s.lexeme ≡ operand.Bracket → Barred a s r → (t m : Left) (k : Use) → from names text a (want t m k) ≡ refused r.cause r.place
+  pub bracket-barred : {a : Progress} {s : Seen} {r : Refusal} → HereIs names text a.position.at s → operand_of s.lexeme ≡ Ok operand.Bracket → Barred a s r → (t m : Left) (k : Use) → from names text a (want t m k) ≡ refused r.cause r.place
   bracket-barred {a} {s} {r} h e b t m k =
       refusing h a.depth (want t m k) TooManyOpen s.place (ap (λ o. wanted a.depth s.place o t m k) e ∙ b.no_room s.place (want none none (within t m k)))
       ∙ ap (λ c. refused c s.place) (sym b.cause) ∙ ap (refused r.cause) (sym b.place)
 
-  bracket-entered : {a y : Progress} {s : Seen} → HereIs names text a.position.at s → operand_of s.lexeme ≡ operand.Bracket → Entered a s y → (t m : Left) (k : Use) → from names text a (want t m k) ≡ from names text y (want none none (within t m k))
+  bracket-entered : {a y : Progress} {s : Seen} → HereIs names text a.position.at s → operand_of s.lexeme ≡ Ok operand.Bracket → Entered a s y → (t m : Left) (k : Use) → from names text a (want t m k) ≡ from names text y (want none none (within t m k))
   bracket-entered {a} {y} {s} h e i t m k =
       taking lexeme.Open h (bracket-taken e) a.depth (want t m k)
       ∙ ap (λ q. run (ahead names text s.end) (suc a.depth) q) (i.room_for s.place (want none none (within t m k)))
       ∙ ap (λ (p : Progress). from names text p (want none none (within t m k))) (sym i.on)
 
-  pub bracket-refused : {a y : Progress} {s : Seen} {c : ReaderCause} {p : ℕ} → HereIs names text a.position.at s → operand_of s.lexeme ≡ operand.Bracket → Entered a s y → ((k : Use) → from names text y (want none none k) ≡ refused c p) → (t m : Left) (k : Use) → from names text a (want t m k) ≡ refused c p
+  pub bracket-refused : {a y : Progress} {s : Seen} {c : ReaderCause} {p : ℕ} → HereIs names text a.position.at s → operand_of s.lexeme ≡ Ok operand.Bracket → Entered a s y → ((k : Use) → from names text y (want none none k) ≡ refused c p) → (t m : Left) (k : Use) → from names text a (want t m k) ≡ refused c p
   bracket-refused h e i stops t m k = bracket-entered h e i t m k ∙ stops (within t m k)
 
   -- the next token behind a whole sum
@@ -90,7 +94,7 @@ module _ {names : List (List ℕ)} {text : List ℕ} where
   behind_sum_lem {at} {s} l h is k e d =
       ap (λ ts. behind_sum k e ts d) h.tokens ∙ ap (λ x. run (follow x (ahead names text s.end)) (depth_after x d) (ended k e (tok s.place x))) is
 
-  pub bracket-unclosed : {a y z : Progress} {old new : List Row} {s : Seen} {r : Refusal} → HereIs names text a.position.at s → operand_of s.lexeme ≡ operand.Bracket → Entered a s y → TookSum names text y old z new → Missed mark.Close names text z r → (t m : Left) (k : Use) → from names text a (want t m k) ≡ refused r.cause r.place
+  pub bracket-unclosed : {a y z : Progress} {old new : List Row} {s : Seen} {r : Refusal} → HereIs names text a.position.at s → operand_of s.lexeme ≡ Ok operand.Bracket → Entered a s y → TookSum names text y old z new → Missed mark.Close names text z r → (t m : Left) (k : Use) → from names text a (want t m k) ≡ refused r.cause r.place
   bracket-unclosed {a} {y} {z} {old} {new} {s} {r} h e i took miss t m k =
       let u : Seen = miss.seen in
       let rest : List Tok = follow u.lexeme (ahead names text u.end) in
@@ -100,7 +104,7 @@ module _ {names : List (List ℕ)} {text : List ℕ} where
       ∙ run-refused rest _ _ _
       ∙ ap (λ (f : Refusal). refused f.cause f.place) (sym miss.refusal)
 
-  pub bracket-read : {a y z w : Progress} {old new : List Row} {s u : Seen} (f : Progress) → HereIs names text a.position.at s → operand_of s.lexeme ≡ operand.Bracket → Entered a s y → TookSum names text y old z new → Passed mark.Close names text z w u → f.position ≡ w.position → f.count ≡ w.count → f.depth ≡ w.depth - 1 → TookFactor names text a old f new
+  pub bracket-read : {a y z w : Progress} {old new : List Row} {s u : Seen} (f : Progress) → HereIs names text a.position.at s → operand_of s.lexeme ≡ Ok operand.Bracket → Entered a s y → TookSum names text y old z new → Passed mark.Close names text z w u → f.position ≡ w.position → f.count ≡ w.count → f.depth ≡ w.depth - 1 → TookFactor names text a old f new
   bracket-read {a} {y} {z} {w} {old} {new} {s} {u} f h e i took pass fp fc fd =
       let yd : y.depth ≡ suc a.depth = ap (λ (p : Progress). p.depth) i.on in
       let yc : y.count ≡ a.count = ap (λ (p : Progress). p.count) i.on in
@@ -130,15 +134,15 @@ module _ {names : List (List ℕ)} {text : List ℕ} where
   pub prod-first : {a z : Progress} {old new : List Row} → TookFactor names text a old z new → TookProd names text a old z new
   prod-first took = record { tree = took.tree; moves = λ t k. took.moves t none k; wrote = took.wrote }
 
-  prod-on : {a y y' : Progress} {old mid : List Row} {s : Seen} {o : Operator} → (took : TookProd names text a old y mid) → HereIs names text y.position.at s → join_of s.lexeme ≡ join.Multiplicative o → y' ≡ read_on y s → (t : Left) (k : Use) → from names text a (want t none k) ≡ from names text y' (want t (left s.place o took.tree) k)
+  prod-on : {a y y' : Progress} {old mid : List Row} {s : Seen} {o : Operator} → (took : TookProd names text a old y mid) → HereIs names text y.position.at s → join_of s.lexeme ≡ Some (join.Multiplicative o) → y' ≡ read_on y s → (t : Left) (k : Use) → from names text a (want t none k) ≡ from names text y' (want t (left s.place o took.tree) k)
   prod-on {a} {y} {y'} {old} {mid} {s} {o} took h e on t k =
       took.moves t k ∙ taking (lexeme.Multiplicative o) h (multiplicative-taken e) y.depth (have t took.tree k)
       ∙ ap (λ (p : Progress). from names text p (want t (left s.place o took.tree) k)) (sym on)
 
-  pub prod-refused : {a y y' : Progress} {old mid : List Row} {s : Seen} {o : Operator} {c : ReaderCause} {p : ℕ} → TookProd names text a old y mid → HereIs names text y.position.at s → join_of s.lexeme ≡ join.Multiplicative o → y' ≡ read_on y s → ((t m : Left) (k : Use) → from names text y' (want t m k) ≡ refused c p) → (t : Left) (k : Use) → from names text a (want t none k) ≡ refused c p
+  pub prod-refused : {a y y' : Progress} {old mid : List Row} {s : Seen} {o : Operator} {c : ReaderCause} {p : ℕ} → TookProd names text a old y mid → HereIs names text y.position.at s → join_of s.lexeme ≡ Some (join.Multiplicative o) → y' ≡ read_on y s → ((t m : Left) (k : Use) → from names text y' (want t m k) ≡ refused c p) → (t : Left) (k : Use) → from names text a (want t none k) ≡ refused c p
   prod-refused took h e on stops t k = prod-on took h e on t k ∙ stops t _ k
 
-  pub prod-turn : {a y y' z z' : Progress} {old mid late new : List Row} {s : Seen} {o : Operator} {c : Kind} {first : ℕ} → TookProd names text a old y mid → HereIs names text y.position.at s → join_of s.lexeme ≡ join.Multiplicative o → y' ≡ read_on y s → TookFactor names text y' mid z late → c ≡ operator_kind o → first ≡ a.count → (new, z') ≡ told late z c (pos 0) first s.place → TookProd names text a old z' new
+  pub prod-turn : {a y y' z z' : Progress} {old mid late new : List Row} {s : Seen} {o : Operator} {c : Kind} {first : ℕ} → TookProd names text a old y mid → HereIs names text y.position.at s → join_of s.lexeme ≡ Some (join.Multiplicative o) → y' ≡ read_on y s → TookFactor names text y' mid z late → c ≡ operator_kind o → first ≡ a.count → (new, z') ≡ told late z c (pos 0) first s.place → TookProd names text a old z' new
   prod-turn {a} {y} {y'} {z} {z'} {old} {mid} {late} {new} {s} {o} {c} {first} took h e on next ec ef told_is =
       record {
         tree = work s.place o took.tree next.tree;
@@ -153,15 +157,15 @@ module _ {names : List (List ℕ)} {text : List ℕ} where
   pub sum_first : {a z : Progress} {old new : List Row} → TookProd names text a old z new → NoProd (ahead names text z.position.at) → SumSoFar names text a old z new
   sum_first took end = record { before = none; last = took.tree; moves = λ k. took.moves none k; wrote = took.wrote; no-prod = end }
 
-  sum-on : {a y y' : Progress} {old mid : List Row} {s : Seen} {o : Operator} → (took : SumSoFar names text a old y mid) → HereIs names text y.position.at s → join_of s.lexeme ≡ join.Additive o → y' ≡ read_on y s → (k : Use) → from names text a (want none none k) ≡ from names text y' (want (left s.place o (onto took.before took.last)) none k)
+  sum-on : {a y y' : Progress} {old mid : List Row} {s : Seen} {o : Operator} → (took : SumSoFar names text a old y mid) → HereIs names text y.position.at s → join_of s.lexeme ≡ Some (join.Additive o) → y' ≡ read_on y s → (k : Use) → from names text a (want none none k) ≡ from names text y' (want (left s.place o (onto took.before took.last)) none k)
   sum-on {a} {y} {y'} {old} {mid} {s} {o} took h e on k =
       took.moves k ∙ taking (lexeme.Additive o) h (additive-taken e) y.depth (have took.before took.last k)
       ∙ ap (λ (p : Progress). from names text p (want (left s.place o (onto took.before took.last)) none k)) (sym on)
 
-  pub sum-refused : {a y y' : Progress} {old mid : List Row} {s : Seen} {o : Operator} {c : ReaderCause} {p : ℕ} → SumSoFar names text a old y mid → HereIs names text y.position.at s → join_of s.lexeme ≡ join.Additive o → y' ≡ read_on y s → ((t : Left) (k : Use) → from names text y' (want t none k) ≡ refused c p) → (k : Use) → from names text a (want none none k) ≡ refused c p
+  pub sum-refused : {a y y' : Progress} {old mid : List Row} {s : Seen} {o : Operator} {c : ReaderCause} {p : ℕ} → SumSoFar names text a old y mid → HereIs names text y.position.at s → join_of s.lexeme ≡ Some (join.Additive o) → y' ≡ read_on y s → ((t : Left) (k : Use) → from names text y' (want t none k) ≡ refused c p) → (k : Use) → from names text a (want none none k) ≡ refused c p
   sum-refused took h e on stops k = sum-on took h e on k ∙ stops _ k
 
-  pub sum-turn : {a y y' z z' : Progress} {old mid late new : List Row} {s : Seen} {o : Operator} {c : Kind} {first : ℕ} → SumSoFar names text a old y mid → HereIs names text y.position.at s → join_of s.lexeme ≡ join.Additive o → y' ≡ read_on y s → TookProd names text y' mid z late → NoProd (ahead names text z.position.at) → c ≡ operator_kind o → first ≡ a.count → (new, z') ≡ told late z c (pos 0) first s.place → SumSoFar names text a old z' new
+  pub sum-turn : {a y y' z z' : Progress} {old mid late new : List Row} {s : Seen} {o : Operator} {c : Kind} {first : ℕ} → SumSoFar names text a old y mid → HereIs names text y.position.at s → join_of s.lexeme ≡ Some (join.Additive o) → y' ≡ read_on y s → TookProd names text y' mid z late → NoProd (ahead names text z.position.at) → c ≡ operator_kind o → first ≡ a.count → (new, z') ≡ told late z c (pos 0) first s.place → SumSoFar names text a old z' new
   sum-turn {a} {y} {y'} {z} {z'} {old} {mid} {late} {new} {s} {o} {c} {first} took h e on next end ec ef told_is =
       let P : List Row × Progress → Type 0 = λ p. NoProd (ahead names text p.1.position.at) in
       record {
@@ -174,10 +178,10 @@ module _ {names : List (List ℕ)} {text : List ℕ} where
         no-prod = subst P (sym told_is) end;
       }
 
-  pub sum-read : {a z : Progress} {old new : List Row} {s : Seen} → SumSoFar names text a old z new → HereIs names text z.position.at s → ((o : Operator) → join_of s.lexeme ≡ join.Additive o → ⊥) → TookSum names text a old z new
+  pub sum-read : {a z : Progress} {old new : List Row} {s : Seen} → SumSoFar names text a old z new → HereIs names text z.position.at s → ((o : Operator) → join_of s.lexeme ≡ Some (join.Additive o) → ⊥) → TookSum names text a old z new
   sum-read {a} {z} {old} {new} {s} took h other =
       let P : List Tok → Type 0 = NoProd in
-      let j : join_of s.lexeme ≡ join.Nothing = nothing-joins (join_of s.lexeme) (subst P h.tokens took.no-prod) other in
+      let j : join_of s.lexeme ≡ None = nothing-joins (join_of s.lexeme) (subst P h.tokens took.no-prod) other in
       let rest : List Tok = follow s.lexeme (ahead names text s.end) in
       record {
         tree = onto took.before took.last;

@@ -12,7 +12,6 @@ use Rattle.tables.specs.declared.row.Row.{Row}
 use Rattle.tables.specs.Rows.{blank, sheet_size, sheet_rows}
 use Rattle.tables.specs.Trees.{Command, Sheet, only, joint}
 use Rattle.grammar.specs.declared.lexeme.Lexeme.TheVariants as lexeme
-use Rattle.grammar.specs.declared.choice.CommandStart.{CommandStart}
 use Rattle.grammar.specs.declared.choice.CommandStart.TheVariants as command
 use Rattle.grammar.specs.Choices.{command_of, refusal_of}
 use Rattle.grammar.specs.Lexemes.{Tok, lexemes}
@@ -22,9 +21,9 @@ use Rattle.reader.specs.Ahead.{ahead, HereIs}
 use Rattle.reader.specs.Progressing.{put}
 use Rattle.reader.specs.Reading.{blanks, filled, too_few_slots, told_by, list_told, reading}
 use Rattle.reader.specs.Wholes.{UnderRead, UnderRefused, long, refuses}
-use Rattle.reader.specs.Ordering.{pushed, JoinedInPlace, EndsSheet, EndAhead}
+use Rattle.reader.specs.Ordering.{pushed, JoinedInPlace, EndAhead}
 use Rattle.reader.proofs.Writing.{sheet-long}
-use Rattle.reader.proofs.Nexts.{close-block-taken, end-taken, taking, refusing}
+use Rattle.reader.proofs.Nexts.{sheet-ends, close-block-taken, end-taken, taking, refusing}
 
 pub all-ahead : (names : List (List ℕ)) (text : List ℕ) → lexemes names text ≡ ahead names text 0
 unfolding ahead
@@ -38,23 +37,15 @@ closed-whole : (p : ℕ) (t : Sheet) (cs : List Command) → closed p (pushed t 
 closed-whole p (only c) cs = refl
 closed-whole p (joint q c t) cs = closed-whole p t (c ∷ cs)
 
-closes : (c : CommandStart) → EndsSheet c → (c ≡ command.End → ⊥) → c ≡ command.CloseBlock
-closes (command.Set x) e n = absurd e
-closes command.If e n = absurd e
-closes command.While e n = absurd e
-closes command.CloseBlock e n = refl
-closes command.End e n = absurd (n refl)
-closes (command.Neither c) e n = absurd e
-
 module _ {names : List (List ℕ)} {text : List ℕ} {at : ℕ} {s : Seen} (h : HereIs names text at s) (d : ℕ) (t : Sheet) where
-  pub ends-here : command_of s.lexeme ≡ command.End → JoinedInPlace t → run (ahead names text at) d (cmd (pushed t []) whole) ≡ done t
+  pub ends-here : command_of s.lexeme ≡ Ok command.End → JoinedInPlace t → run (ahead names text at) d (cmd (pushed t []) whole) ≡ done t
   ends-here e j = taking lexeme.End h (end-taken e) d (cmd (pushed t []) whole) ∙ finished-whole s.place t [] j
 
   -- a bracket that closes no block
-  pub goes_on : EndAhead (ahead names text at) → (command_of s.lexeme ≡ command.End → ⊥) → run (ahead names text at) d (cmd (pushed t []) whole) ≡ refused (refusal_of s.lexeme) s.place
+  pub goes_on : EndAhead (ahead names text at) → (command_of s.lexeme ≡ Ok command.End → ⊥) → run (ahead names text at) d (cmd (pushed t []) whole) ≡ refused (refusal_of s.lexeme) s.place
   goes_on e n =
       let P : List Tok → Type 0 = EndAhead in
-      let l : s.lexeme ≡ lexeme.CloseBlock = close-block-taken (closes (command_of s.lexeme) (subst P h.tokens e) n) in
+      let l : s.lexeme ≡ lexeme.CloseBlock = close-block-taken (⊎_elim (λ close. close) (λ end. absurd (n end)) (sheet-ends (command_of s.lexeme) (subst P h.tokens e))) in
       refusing h d (cmd (pushed t []) whole) (refusal_of s.lexeme) s.place
       (ap (λ x. commanded (command_of x) s.place (pushed t []) whole) l ∙ closed-whole s.place t [] ∙ ap (λ x. refused (refusal_of x) s.place) (sym l))
 

@@ -1,5 +1,6 @@
 -- The tokens that are still to be read, as the grammar sees them, and the next of them.
-use Rattle.std.specs.Prelude.{◌≡◌, ℕ, ◌<◌, ◌≤◌, List, [], ◌∷◌, length, ◌≢◌}
+use Rattle.std.specs.Prelude.{◌≡◌, ℕ, ◌<◌, ◌≤◌, List, [], ◌∷◌, length, ◌≢◌, Ok, Err, Result}
+use Rattle.faults.specs.declared.causes.ReaderCause.{ReaderCause}
 use Rattle.scanner.specs.Tokens.{tokens_at}
 use Rattle.grammar.specs.declared.lexeme.Lexeme.{Lexeme}
 use Rattle.grammar.specs.declared.lexeme.Lexeme.TheVariants as lexeme
@@ -48,3 +49,8 @@ pub record HereIs (names : List (List ℕ)) (text : List ℕ) (at : ℕ) (s : Se
 
 abbrev pub refused_at : Seen → Refusal
 refused_at s = record { cause = refusal_of s.lexeme; place = s.place }
+
+-- what it is at a place, or the refusal there
+abbrev pub seen_as : {A : Type 0} → Seen → Result A ReaderCause → Result A Refusal
+seen_as s (Ok x) = Ok x
+seen_as s (Err c) = Err (record { cause = c; place = s.place })

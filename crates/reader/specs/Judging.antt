@@ -1,5 +1,5 @@
 -- What reading a condition, a conjunct and a literal does, by the machine: as for sums, whatever the condition is for.
-use Rattle.std.specs.Prelude.{◌≡◌, ℕ, List, [], ◌∷◌, Ok, Err, Result}
+use Rattle.std.specs.Prelude.{◌≡◌, ℕ, List, [], ◌∷◌, Some, None, Ok, Err, Option, Result}
 use Rattle.tables.specs.declared.row.Row.{Row}
 use Rattle.tables.specs.Trees.{Condition, both, either}
 use Rattle.tables.specs.Rows.{condition_rows}
@@ -27,10 +27,10 @@ behind_condition c u [] d = had c [] [] u
 behind_condition c u (x ∷ xs) d = run xs (depth_after x.lexeme d) (closing c u x)
 
 -- behind a conjunct, which no && follows
-abbrev pub linked_on : Link → Condition → List Pending → Purpose → Tok → State
-linked_on link.And c ors u x = refuse x
-linked_on link.Or c ors u x = lit [] [] (pending x.place c ∷ ors) u
-linked_on link.Nothing c ors u x = closing (joined either ors c) u x
+abbrev pub linked_on : Option Link → Condition → List Pending → Purpose → Tok → State
+linked_on (Some link.And) c ors u x = refuse x
+linked_on (Some link.Or) c ors u x = lit [] [] (pending x.place c ∷ ors) u
+linked_on None c ors u x = closing (joined either ors c) u x
 
 abbrev pub behind_conjunct : Condition → List Pending → Purpose → List Tok → ℕ → State
 behind_conjunct c ors u [] d = had c [] ors u

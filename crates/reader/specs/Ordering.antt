@@ -1,5 +1,6 @@
 -- What reading a sheet, a command and a block does, by the machine: as for sums, whatever block they stand in.
 use Rattle.std.specs.Prelude.{◌≡◌, ℕ, suc, ◌+◌, ◌≤◌, List, [], ◌∷◌, Ok, Err, Result}
+use Rattle.faults.specs.declared.causes.ReaderCause.{ReaderCause}
 use Rattle.tables.specs.declared.row.Row.{Row}
 use Rattle.tables.specs.Trees.{Command, Sheet, only, joint}
 use Rattle.tables.specs.Rows.{command_rows, sheet_rows}
@@ -30,13 +31,13 @@ place_ahead [] = 0
 place_ahead (x ∷ xs) = x.place
 
 -- a sheet ends before the end of its block or of the text
-abbrev pub EndsSheet : CommandStart → Type 0
-EndsSheet (command.Set x) = ⊥
-EndsSheet command.If = ⊥
-EndsSheet command.While = ⊥
-EndsSheet command.CloseBlock = Unit {0}
-EndsSheet command.End = Unit {0}
-EndsSheet (command.Neither c) = ⊥
+abbrev pub EndsSheet : Result CommandStart ReaderCause → Type 0
+EndsSheet (Ok (command.Set x)) = ⊥
+EndsSheet (Ok command.If) = ⊥
+EndsSheet (Ok command.While) = ⊥
+EndsSheet (Ok command.CloseBlock) = Unit {0}
+EndsSheet (Ok command.End) = Unit {0}
+EndsSheet (Err c) = ⊥
 
 abbrev pub EndAhead : List Tok → Type 0
 EndAhead [] = ⊥
@@ -80,7 +81,7 @@ pub record TookBlock (names : List (List ℕ)) (text : List ℕ) (a : Progress) 
 -- the token just seen is the next one, and begins a command so
 pub record Begins (start : CommandStart) (names : List (List ℕ)) (text : List ℕ) (a : Progress) (s : Seen) : Type 0 where
   pub here : HereIs names text a.position.at s
-  pub is : command_of s.lexeme ≡ start
+  pub is : command_of s.lexeme ≡ Ok start
 
 abbrev pub CommandAnswer : List (List ℕ) → List ℕ → Progress → List Row → Progress → List Row → Result (Unit {0}) Refusal → Type 0
 CommandAnswer names text a old z new (Ok u) = TookCommand names text a old z new

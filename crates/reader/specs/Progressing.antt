@@ -1,11 +1,11 @@
 -- The small steps of reading, and what is left of each: the position behind a token, a bracket more, a row more.
-use Rattle.std.specs.Prelude.{◌≡◌, ℕ, suc, ◌+◌, ◌-◌, ◌<◌, ◌≤◌, cond, List, [], ◌∷◌, length, ℤ, Ok, Err, Result, nat_lt, slice_set}
+use Rattle.std.specs.Prelude.{◌≡◌, ℕ, suc, ◌+◌, ◌-◌, ◌<◌, ◌≤◌, cond, List, [], ◌∷◌, length, ℤ, Some, Ok, Err, Option, Result, nat_lt, slice_set}
 use Rattle.faults.specs.declared.causes.ReaderCause.TheVariants.{TooManyOpen}
 use Rattle.tables.specs.declared.kind.Kind.{Kind}
 use Rattle.tables.specs.declared.row.Row.{Row}
 use Rattle.tables.specs.Rows.{row}
 use Rattle.grammar.specs.declared.choice.Mark.{Mark}
-use Rattle.grammar.specs.declared.choice.Mark.TheVariants.{Else, Open, Close, OpenBlock, Semicolon, Becomes, Other}
+use Rattle.grammar.specs.declared.choice.Mark.TheVariants.{Else, Open, Close, OpenBlock, Semicolon, Becomes}
 use Rattle.grammar.specs.Choices.{mark_of}
 use Rattle.grammar.specs.Machine.{State, run, if_else, if_open, if_close, if_open_block, if_semicolon, if_becomes}
 use Rattle.reader.specs.declared.seen.Seen.{Seen}
@@ -32,19 +32,18 @@ told_leaf rows a k v s =
     (slice_set rows a.count (row k v 1 s.place), record { position = record { at = s.end }; count = suc a.count; depth = a.depth })
 
 -- by the sign or word that is wanted
-abbrev pub if_mark : {A : Type 0} → Mark → Mark → A → A → A
+abbrev pub if_mark : {A : Type 0} → Mark → Option Mark → A → A → A
 if_mark Else m x y = if_else m x y
 if_mark Open m x y = if_open m x y
 if_mark Close m x y = if_close m x y
 if_mark OpenBlock m x y = if_open_block m x y
 if_mark Semicolon m x y = if_semicolon m x y
 if_mark Becomes m x y = if_becomes m x y
-if_mark Other m x y = y
 
 -- the wanted one stood there, and was passed
 pub record Passed (wanted : Mark) (names : List (List ℕ)) (text : List ℕ) (a z : Progress) (s : Seen) : Type 0 where
   pub here : HereIs names text a.position.at s
-  pub is : mark_of s.lexeme ≡ wanted
+  pub is : mark_of s.lexeme ≡ Some wanted
   pub on : z ≡ read_on a s
 
 pub record Missed (wanted : Mark) (names : List (List ℕ)) (text : List ℕ) (a : Progress) (r : Refusal) : Type 0 where

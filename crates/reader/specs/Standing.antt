@@ -1,5 +1,5 @@
--- Where the functions that call each other may be called: in a sheet that is not too long, behind at least as many bytes
--- as there are rows so far. So sizes and places fit their rows, and no count passes its limits.
+-- Where a reader may stand: in a sheet that is not too long, under few enough names, behind at least as many bytes as there
+-- are rows so far. So points, sizes and places fit their rows, and no count passes its limits.
 use Rattle.std.specs.Prelude.{ℕ, ◌≤◌, List, length}
 use Rattle.reader.specs.declared.progress.Progress.{Progress}
 

@@ -1,6 +1,6 @@
 -- What reading a sum, a prod and a factor does, by the machine, whatever the sum is for: its tokens take the machine
 -- to where the tree stands, and its rows are written; or the machine refuses, for the same cause at the same place.
-use Rattle.std.specs.Prelude.{◌≡◌, ℕ, List, [], ◌∷◌, Ok, Err, Result}
+use Rattle.std.specs.Prelude.{◌≡◌, ℕ, List, [], ◌∷◌, Some, None, Ok, Err, Option, Result}
 use Rattle.tables.specs.declared.row.Row.{Row}
 use Rattle.tables.specs.Trees.{Sum}
 use Rattle.tables.specs.Rows.{sum_rows}
@@ -20,10 +20,10 @@ behind_sum k e [] d = have none e k
 behind_sum k e (x ∷ xs) d = run xs (depth_after x.lexeme d) (ended k e x)
 
 -- what goes on with a prod
-abbrev pub NoFactor : Join → Type 0
-NoFactor (join.Additive o) = Unit {0}
-NoFactor (join.Multiplicative o) = ⊥
-NoFactor join.Nothing = Unit {0}
+abbrev pub NoFactor : Option Join → Type 0
+NoFactor (Some (join.Additive o)) = Unit {0}
+NoFactor (Some (join.Multiplicative o)) = ⊥
+NoFactor None = Unit {0}
 
 -- the next token goes on with no prod
 abbrev pub NoProd : List Tok → Type 0

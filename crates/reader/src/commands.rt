@@ -6,7 +6,6 @@ ghost use Rattle.reader.specs.Ordering.{Begins, SheetAnswer, CommandAnswer, Bloc
 
 use crate::reader::Reader;
 use crate::seen::{Refusal, Seen};
-use faults::ReaderCause;
 use grammar::{CommandStart, Mark};
 use tables::Kind;
 
@@ -22,7 +21,7 @@ impl Reader<'_> {
         let first = self.progress.count;
         self.command()?;
         let seen = self.see();
-        match seen.lexeme.command_start() {
+        match seen.command_start()? {
             CommandStart::CloseBlock | CommandStart::End => Ok(()),
             _ => {
                 self.sheet()?;
@@ -38,18 +37,11 @@ impl Reader<'_> {
         ensures same { held self.new ≡ held self.old }
     {
         let seen = self.see();
-        match seen.lexeme.command_start() {
+        match seen.command_start()? {
             CommandStart::Set(point) => self.set_command(seen, point),
             CommandStart::If => self.if_command(seen),
             CommandStart::While => self.while_command(seen),
-            CommandStart::CloseBlock | CommandStart::End => Err(Refusal {
-                cause: ReaderCause::Unexpected,
-                place: seen.place,
-            }),
-            CommandStart::Neither(cause) => Err(Refusal {
-                cause,
-                place: seen.place,
-            }),
+            CommandStart::CloseBlock | CommandStart::End => Err(seen.refusal()),
         }
     }
 
@@ -80,10 +72,10 @@ impl Reader<'_> {
         self.bracketed()?;
         self.block()?;
         let next = self.see();
-        let Mark::Else = next.lexeme.mark() else {
+        if next.lexeme.mark() != Some(Mark::Else) {
             self.tell(Kind::If, 0, first, seen.place);
             return Ok(());
-        };
+        }
         self.progress.pass(next);
         self.block()?;
         self.tell(Kind::IfElse, 0, first, seen.place);
@@ -115,9 +107,9 @@ impl Reader<'_> {
         self.progress.enter(seen)?;
         self.sheet()?;
         let end = self.see();
-        let CommandStart::CloseBlock = end.lexeme.command_start() else {
+        if end.lexeme.command_start() != Ok(CommandStart::CloseBlock) {
             return Err(end.refusal());
-        };
+        }
         self.progress.pass(end);
         self.progress.depth -= 1;
         Ok(())

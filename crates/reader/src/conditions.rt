@@ -18,7 +18,7 @@ impl Reader<'_> {
         let first = self.progress.count;
         self.conjunct()?;
         let seen = self.see();
-        if let Link::Or = seen.lexeme.link() {
+        if seen.lexeme.link() == Some(Link::Or) {
             self.progress.pass(seen);
             self.condition()?;
             self.tell(Kind::Or, 0, first, seen.place);
@@ -34,7 +34,7 @@ impl Reader<'_> {
         let first = self.progress.count;
         self.literal()?;
         let seen = self.see();
-        if let Link::And = seen.lexeme.link() {
+        if seen.lexeme.link() == Some(Link::And) {
             self.progress.pass(seen);
             self.conjunct()?;
             self.tell(Kind::And, 0, first, seen.place);
@@ -100,7 +100,7 @@ impl Reader<'_> {
         self.sum()?;
         self.tell(
             Kind::Compare,
-            i32::from(comparison.number()),
+            i32::from(u8::from(comparison)),
             first,
             seen.place,
         );

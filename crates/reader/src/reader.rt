@@ -60,7 +60,7 @@ impl<'a> Reader<'a> {
         ensures same { held self.new ≡ held self.old }
     {
         let seen = self.see();
-        if seen.is(wanted) {
+        if seen.lexeme.mark() == Some(wanted) {
             self.progress.pass(seen);
             Ok(seen)
         } else {

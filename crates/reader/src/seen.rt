@@ -1,12 +1,11 @@
 // The next token, as the grammar sees it.
-ghost use Rattle.std.specs.Prelude.{◌≡◌, true, false};
-ghost use Rattle.grammar.specs.Choices.{mark_of};
-ghost use Rattle.reader.specs.Ahead.{refused_at};
-ghost use Rattle.reader.specs.Progressing.{if_mark};
+ghost use Rattle.std.specs.Prelude.{◌≡◌};
+ghost use Rattle.grammar.specs.Choices.{operand_of, command_of};
+ghost use Rattle.reader.specs.Ahead.{refused_at, seen_as};
 ghost use Rattle.reader.specs.Reading.{reader_fault};
 
 use faults::{Fault, Layer, ReaderCause};
-use grammar::{Lexeme, Mark};
+use grammar::{CommandStart, Lexeme, Operand};
 
 #[derive(Clone, Copy)]
 pub(crate) struct Seen {
@@ -27,42 +26,40 @@ impl From<Refusal> for Fault {
     ghost from_gives = { λ r f. f ≡ reader_fault r.cause r.place };
 
     fn from(refusal: Refusal) -> Fault {
-        reader_fault(refusal.cause, refusal.place)
-    }
-}
-
-pub(crate) fn reader_fault(cause: ReaderCause, figure: usize) -> Fault
-    ensures { result ≡ reader_fault cause figure }
-{
-    Fault {
-        layer: Layer::Reader(cause),
-        figure: figure as u64,
+        Fault::new(Layer::Reader(refusal.cause), refusal.place)
     }
 }
 
 impl Seen {
-    // The refusal where no rule takes it.
-    pub(crate) fn refusal(self) -> Refusal
-        ensures { result ≡ refused_at self }
+    // What it is where a factor is wanted.
+    pub(crate) fn operand(self) -> Result<Operand, Refusal>
+        ensures { result ≡ seen_as self (operand_of self.lexeme) }
+    {
+        self.lexeme.operand().map_err(|cause| self.refused(cause))
+    }
+
+    // What it is where a command is wanted, or the end of its block.
+    pub(crate) fn command_start(self) -> Result<CommandStart, Refusal>
+        ensures { result ≡ seen_as self (command_of self.lexeme) }
+    {
+        self.lexeme
+            .command_start()
+            .map_err(|cause| self.refused(cause))
+    }
+
+    fn refused(self, cause: ReaderCause) -> Refusal
+        ensures { result ≡ record { cause = cause; place = self.place } }
     {
         Refusal {
-            cause: self.lexeme.refusal(),
+            cause,
             place: self.place,
         }
     }
 
-    // Whether it is the one sign or word that is wanted.
-    pub(crate) fn is(self, wanted: Mark) -> bool
-        ensures { result ≡ if_mark wanted (mark_of self.lexeme) true false }
+    // The refusal where no rule takes it.
+    pub(crate) fn refusal(self) -> Refusal
+        ensures { result ≡ refused_at self }
     {
-        match (wanted, self.lexeme.mark()) {
-            (Mark::Else, Mark::Else)
-            | (Mark::Open, Mark::Open)
-            | (Mark::Close, Mark::Close)
-            | (Mark::OpenBlock, Mark::OpenBlock)
-            | (Mark::Semicolon, Mark::Semicolon)
-            | (Mark::Becomes, Mark::Becomes) => true,
-            _ => false,
-        }
+        self.refused(self.lexeme.refusal())
     }
 }

@@ -9,7 +9,7 @@ ghost use Rattle.reader.specs.Wholes.{UnderAnswer, AllAnswer};
 
 use crate::progress::Progress;
 use crate::reader::Reader;
-use crate::seen::{Refusal, reader_fault};
+use crate::seen::Refusal;
 use faults::{Fault, Layer, ReaderCause, TableCause};
 use grammar::CommandStart;
 use names::NameList;
@@ -34,10 +34,7 @@ pub fn read(list: &[u8], sheet: &[u8], rows: &mut [Row]) -> Result<usize, Fault>
     };
     if needed > MOST_ROWS || needed > rows.len() {
         clear(rows);
-        return Err(Fault {
-            layer: Layer::Table(TableCause::TooFewSlots),
-            figure: needed as u64,
-        });
+        return Err(Fault::new(Layer::Table(TableCause::TooFewSlots), needed));
     }
     Ok(needed)
 }
@@ -48,7 +45,7 @@ fn read_under(names: NameList, sheet: &[u8], rows: &mut [Row]) -> Result<usize, 
     ensures { UnderAnswer (lines_of names.entry.text.now) sheet.now rows.old rows.new result }
 {
     if sheet.len() > MOST_BYTES {
-        return Err(reader_fault(ReaderCause::SheetTooLong, MOST_BYTES));
+        return Err(Fault::new(Layer::Reader(ReaderCause::SheetTooLong), MOST_BYTES));
     }
     Ok(read_all(names, sheet, rows)?)
 }
@@ -71,9 +68,9 @@ fn read_all(names: NameList, sheet: &[u8], rows: &mut [Row]) -> Result<usize, Re
     };
     reader.sheet()?;
     let end = reader.see();
-    let CommandStart::End = end.lexeme.command_start() else {
+    if end.lexeme.command_start() != Ok(CommandStart::End) {
         return Err(end.refusal());
-    };
+    }
     Ok(reader.progress.count)
 }
 

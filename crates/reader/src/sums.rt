@@ -1,24 +1,11 @@
 // Sums, prods and factors: they call each other, and each row is written behind its parts'.
 ghost use Rattle.std.specs.Prelude.{◌≡◌};
-ghost use Rattle.tables.specs.Rows.{operator_kind};
 ghost use Rattle.reader.specs.Summing.{SumAnswer, ProdAnswer, FactorAnswer};
 
 use crate::reader::Reader;
 use crate::seen::Refusal;
-use arith::Operator;
 use grammar::{Join, Mark, Operand};
 use tables::Kind;
-
-fn operator_kind(operator: Operator) -> Kind
-    ensures { result ≡ operator_kind operator }
-{
-    match operator {
-        Operator::Add => Kind::Add,
-        Operator::Sub => Kind::Sub,
-        Operator::Mul => Kind::Mul,
-        Operator::Div => Kind::Div,
-    }
-}
 
 impl Reader<'_> {
     ghost use Rattle.reader.specs.Holding.{Reads, held};
@@ -32,12 +19,12 @@ impl Reader<'_> {
         self.prod()?;
         'more: loop {
             let seen = self.see();
-            let Join::Additive(operator) = seen.lexeme.join() else {
+            let Some(Join::Additive(operator)) = seen.lexeme.join() else {
                 return Ok(());
             };
             self.progress.pass(seen);
             self.prod()?;
-            self.tell(operator_kind(operator), 0, first, seen.place);
+            self.tell(Kind::from(operator), 0, first, seen.place);
         }
     }
 
@@ -50,12 +37,12 @@ impl Reader<'_> {
         self.factor()?;
         'more: loop {
             let seen = self.see();
-            let Join::Multiplicative(operator) = seen.lexeme.join() else {
+            let Some(Join::Multiplicative(operator)) = seen.lexeme.join() else {
                 return Ok(());
             };
             self.progress.pass(seen);
             self.factor()?;
-            self.tell(operator_kind(operator), 0, first, seen.place);
+            self.tell(Kind::from(operator), 0, first, seen.place);
         }
     }
 
@@ -65,7 +52,7 @@ impl Reader<'_> {
         ensures same { held self.new ≡ held self.old }
     {
         let seen = self.see();
-        match seen.lexeme.operand() {
+        match seen.operand()? {
             Operand::Number(value) => {
                 self.leaf(Kind::Number, value, seen);
                 Ok(())
@@ -81,10 +68,6 @@ impl Reader<'_> {
                 self.progress.depth -= 1;
                 Ok(())
             }
-            Operand::Neither(cause) => Err(Refusal {
-                cause,
-                place: seen.place,
-            }),
         }
     }
 }

@@ -60,8 +60,9 @@ returns-then-needed-gt-MOST_ROWS c =
     let P : List Row → Type 0 = λ rs. UnderRead (lines_of c.in_ok-names.names.text.now) c.args.sheet.now rs c.read_under.new.rows n in
     let under : P (blanks old) = subst P c.clear.ensures c.in-Ok.ensures in
     let more : (2048 < n) ⊎ (length old < n) = ⊎_elim (λ h. inl h) (λ h. inr (omega (arith, h.1))) c.then-needed-gt-MOST_ROWS.either in
-    let e : (Err (too_few_slots n), c.clear-then-needed-gt-MOST_ROWS.new.rows) ≡ reading c.args.list.now c.args.sheet.now old =
-    ap (λ rs. (Err (too_few_slots n), rs)) (c.clear-then-needed-gt-MOST_ROWS.ensures ∙ ap (λ k. replicate k blank) long)
+    let e : (Err c.new.result, c.clear-then-needed-gt-MOST_ROWS.new.rows) ≡ reading c.args.list.now c.args.sheet.now old =
+    ap (λ f. (Err f, c.clear-then-needed-gt-MOST_ROWS.new.rows)) c.new.ensures
+    ∙ ap (λ rs. (Err (too_few_slots n), rs)) (c.clear-then-needed-gt-MOST_ROWS.ensures ∙ ap (λ k. replicate k blank) long)
     ∙ slots-refused c.args.list.now c.args.sheet.now old c.in_ok-names.names.text.now c.in_ok-names.ensures.value c.read_under.new.rows n under more in
     record { value = e; exactly = exactly _ _ _ _ _ e }
 

@@ -12,11 +12,11 @@ returns-in_err-sheet c =
     let p = err_from_is_err_and c.from_residual.result c.from_residual.ensures.1 in
     rw (p.1, p.2) (ap (λ ts. run ts 0 start) (all-ahead _ _) ∙ c.in_err-sheet.ensures.reads.answer [] whole tt)
 
-pub returns-in_default : goal.returns-in_default
-returns-in_default c =
+pub returns-then-ne : goal.returns-then-ne
+returns-then-ne c =
     let took = c.in_ok-sheet.ensures.reads.answer in
     ap (λ ts. run ts 0 start) (all-ahead _ _) ∙ took.moves [] whole
-    ∙ goes_on (here c.in_ok-sheet.ensures.same c.see-end.ensures) c.sheet.new.self.progress.depth took.tree took.ends (λ e. c.in_default.not-End (c.command_start.ensures ∙ e))
+    ∙ goes_on (here c.in_ok-sheet.ensures.same c.see-end.ensures) c.sheet.new.self.progress.depth took.tree took.ends (search rules)
     ∙ ap (λ (r : Refusal). refused r.cause r.place) (sym c.refusal.ensures)
 
 pub returns : goal.returns
@@ -26,7 +26,7 @@ returns c =
       tree = took.tree;
       is =
           ap (λ ts. run ts 0 start) (all-ahead _ _) ∙ took.moves [] whole
-          ∙ ends-here (here c.in_ok-sheet.ensures.same c.see-end.ensures) c.sheet.new.self.progress.depth took.tree (sym c.in-End.ensures) took.joints;
+          ∙ ends-here (here c.in_ok-sheet.ensures.same c.see-end.ensures) c.sheet.new.self.progress.depth took.tree (search rules) took.joints;
       count = omega (arith, took.wrote.count, sheet-long took.tree);
       rows = search (rules, took.wrote.rows);
     }

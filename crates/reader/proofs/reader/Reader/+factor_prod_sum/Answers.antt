@@ -1,57 +1,57 @@
 -- The machine at each way out; what it does between is in Summed.
-use Rattle.std.proofs.Common.{◌≡◌, ℕ, suc, ◌<◌, List, sym, refl, ap, ◌∙◌, arith, w32, SFits, to_z, of_z, rules}
-use Rattle.std.proofs.lemmas.Int.{to_z-of_z, to_z_pos}
+use Rattle.std.proofs.Common.{◌≡◌, suc, ◌<◌, List, Some, sym, refl, ap, ◌∙◌, arith, w32, SFits, to_z, of_z, rules}
 use Rattle.std.proofs.lemmas.Result.{err_from_is_err_and}
+use Rattle.std.proofs.lemmas.Int.{to_z-of_z}
 use Rattle.tables.specs.declared.row.Row.{Row}
 use Rattle.reader.specs.declared.seen.Seen.{Seen}
 use Rattle.reader.specs.declared.progress.Progress.{Progress}
-use Rattle.reader.proofs.Carrying.{on, here, passed, missed}
+use Rattle.reader.proofs.Carrying.{stops, on, here, passed, missed}
 use Rattle.reader.proofs.Entering.{entered, barred}
-use Rattle.reader.proofs.Nexts.{name-taken, additive-taken, multiplicative-taken, further}
+use Rattle.reader.proofs.Nexts.{additive-taken, multiplicative-taken, further, seen-taken}
 use Rattle.reader.proofs.Summed.{number_read, name-read, no-factor, bracket-barred, bracket-refused, bracket-unclosed, bracket-read, prod-first, prod-refused, prod-turn, sum_first, sum-refused, sum-turn, sum-read}
 use Rattle.reader.proofs.reader.Reader.+factor_prod_sum.Goals as goal
 
 pub factor-returns-in_err-enter-in-Bracket-clause-reads : goal.factor-returns-in_err-enter-in-Bracket-clause-reads
 factor-returns-in_err-enter-in-Bracket-clause-reads t c =
-    let p = err_from_is_err_and c.from_residual.result c.from_residual.ensures.1 in
-    rw (p.1, p.2) (record { answer = bracket-barred c.see-seen.ensures (sym c.in-Bracket.ensures) (barred c.in_err-enter-in-Bracket.ensures) })
+    let is = seen-taken c.see-seen.result _ c.in_ok-value.ensures c.in-Bracket.is in
+    stops (err_from_is_err_and c.from_residual-in_err-enter-in-Bracket.result c.from_residual-in_err-enter-in-Bracket.ensures.1) (bracket-barred c.see-seen.ensures is (barred c.in_err-enter-in-Bracket.ensures))
 
 pub factor-returns-in_err-sum-in-Bracket-clause-reads : goal.factor-returns-in_err-sum-in-Bracket-clause-reads
 factor-returns-in_err-sum-in-Bracket-clause-reads t c =
-    let p = err_from_is_err_and c.from_residual-in_err-sum-in-Bracket.result c.from_residual-in_err-sum-in-Bracket.ensures.1 in
-    rw (p.1, p.2) (record { answer = bracket-refused c.see-seen.ensures (sym c.in-Bracket.ensures) (entered c.in_ok-enter-in-Bracket.ensures) c.in_err-sum-in-Bracket.ensures.reads.answer })
+    let is = seen-taken c.see-seen.result _ c.in_ok-value.ensures c.in-Bracket.is in
+    stops (err_from_is_err_and c.from_residual-in_err-sum-in-Bracket.result c.from_residual-in_err-sum-in-Bracket.ensures.1) (bracket-refused c.see-seen.ensures is (entered c.in_ok-enter-in-Bracket.ensures) c.in_err-sum-in-Bracket.ensures.reads.answer)
 
 pub factor-returns-in_err-expect-in-Bracket-clause-reads : goal.factor-returns-in_err-expect-in-Bracket-clause-reads
 factor-returns-in_err-expect-in-Bracket-clause-reads t c =
-    let p = err_from_is_err_and c.from_residual-in_err-expect-in-Bracket.result c.from_residual-in_err-expect-in-Bracket.ensures.1 in
+    let is = seen-taken c.see-seen.result _ c.in_ok-value.ensures c.in-Bracket.is in
     let sum = c.in_ok-sum-in-Bracket.ensures in
-    rw (p.1, p.2) (record { answer = bracket-unclosed c.see-seen.ensures (sym c.in-Bracket.ensures) (entered c.in_ok-enter-in-Bracket.ensures) sum.reads.answer (missed sum.same c.in_err-expect-in-Bracket.ensures.answer) })
+    stops (err_from_is_err_and c.from_residual-in_err-expect-in-Bracket.result c.from_residual-in_err-expect-in-Bracket.ensures.1) (bracket-unclosed c.see-seen.ensures is (entered c.in_ok-enter-in-Bracket.ensures) sum.reads.answer (missed sum.same c.in_err-expect-in-Bracket.ensures.answer))
 
 pub factor-returns-in_ok-expect-in-Bracket-clause-reads : goal.factor-returns-in_ok-expect-in-Bracket-clause-reads
 factor-returns-in_ok-expect-in-Bracket-clause-reads t c =
+    let is = seen-taken c.see-seen.result _ c.in_ok-value.ensures c.in-Bracket.is in
     let sum = c.in_ok-sum-in-Bracket.ensures in
-    record { answer = rw c.in_ok-expect-in-Bracket.ensures.rows (bracket-read _ c.see-seen.ensures (sym c.in-Bracket.ensures) (entered c.in_ok-enter-in-Bracket.ensures) sum.reads.answer (passed sum.same c.in_ok-expect-in-Bracket.ensures.answer) refl refl refl) }
+    record { answer = rw c.in_ok-expect-in-Bracket.ensures.rows (bracket-read _ c.see-seen.ensures is (entered c.in_ok-enter-in-Bracket.ensures) sum.reads.answer (passed sum.same c.in_ok-expect-in-Bracket.ensures.answer) refl refl refl) }
 
 pub factor-returns-in-Number-clause-reads : goal.factor-returns-in-Number-clause-reads
 factor-returns-in-Number-clause-reads t c =
     let f : SFits w32 c.in-Number.value = search rules in
-    record { answer = number_read c.see-seen.ensures (sym c.in-Number.ensures) c.args.self.now.stands.within (to_z w32 (of_z w32 c.in-Number.value)) (to_z-of_z w32 c.in-Number.value f) c.leaf.ensures.value }
+    let is = seen-taken c.see-seen.result _ c.in_ok-value.ensures c.in-Number.is in
+    record { answer = number_read c.see-seen.ensures is c.args.self.now.stands.within (to_z w32 (of_z w32 c.in-Number.value)) (to_z-of_z w32 c.in-Number.value f) c.leaf.ensures.value }
 
 pub factor-returns-in-Name-clause-reads : goal.factor-returns-in-Name-clause-reads
 factor-returns-in-Name-clause-reads t c =
-    let x : ℕ = c.in-Name.point in
-    let few : x < 64 = omega (arith, c.see-seen.ensures.named x (name-taken (sym c.in-Name.ensures)), c.args.self.now.stands.listed) in
-    record { answer = name-read c.see-seen.ensures (sym c.in-Name.ensures) c.args.self.now.stands.within (to_z w32 x) (to_z_pos w32 x (omega arith)) c.leaf-in-Name.ensures.value }
+    let is = seen-taken c.see-seen.result _ c.in_ok-value.ensures c.in-Name.is in
+    record { answer = name-read c.see-seen.ensures is c.args.self.now.stands.within c.args.self.now.stands.listed c.leaf-in-Name.ensures.value }
 
-pub factor-returns-in-Neither-clause-reads : goal.factor-returns-in-Neither-clause-reads
-factor-returns-in-Neither-clause-reads t c = record { answer = no-factor c.args.self.now.progress c.see-seen.ensures (sym c.in-Neither.ensures) }
+pub factor-returns-in_err-value-clause-reads : goal.factor-returns-in_err-value-clause-reads
+factor-returns-in_err-value-clause-reads t c = stops (err_from_is_err_and c.from_residual.result c.from_residual.ensures.1) (no-factor c.args.self.now.progress c.see-seen.ensures c.in_err-value.ensures)
 
 pub prod-returns-in_err-factor-2-clause-reads : goal.prod-returns-in_err-factor-2-clause-reads
 prod-returns-in_err-factor-2-clause-reads t c =
-    let p = err_from_is_err_and c.from_residual-in_err-factor-2.result c.from_residual-in_err-factor-2.ensures.1 in
     let same = c.more.invariant.2 ∙ c.in_ok-factor.ensures.same in
     let took = c.more.invariant.3 c.args.self.now c.in_ok-factor.ensures.same refl (prod-first c.in_ok-factor.ensures.reads.answer) in
-    rw (p.1, p.2) (record { answer = prod-refused took (here same c.see-seen.ensures) (sym c.in-Multiplicative.ensures) c.pass.ensures (on c.in_err-factor-2.ensures.reads same) })
+    stops (err_from_is_err_and c.from_residual-in_err-factor-2.result c.from_residual-in_err-factor-2.ensures.1) (prod-refused took (here same c.see-seen.ensures) (sym c.in-Some-Multiplicative.ensures ∙ ap Some c.in-Some-Multiplicative.field-0-is) c.pass.ensures (on c.in_err-factor-2.ensures.reads same))
 
 pub prod-more-preserved : goal.prod-more-preserved
 prod-more-preserved t c =
@@ -59,7 +59,7 @@ prod-more-preserved t c =
     let z : Progress = c.factor-in-more.new.self.progress in
     let s : Seen = c.see-seen.result in
     let next = c.in_ok-factor-2.ensures.reads.answer in
-    let lt : y.position.at < s.end = further _ c.see-seen.ensures (multiplicative-taken (sym c.in-Multiplicative.ensures)) tt in
+    let lt : y.position.at < s.end = further _ c.see-seen.ensures (multiplicative-taken (sym c.in-Some-Multiplicative.ensures ∙ ap Some c.in-Some-Multiplicative.field-0-is)) tt in
     let n : c.pass.new.self.count ≡ y.count = ap (λ (p : Progress). p.count) c.pass.ensures in
     let e : c.pass.new.self.position.at ≡ s.end = ap (λ (p : Progress). p.position.at) c.pass.ensures in
     let zn : c.tell.new.self.progress.count ≡ suc z.count = ap (λ (p : List Row × Progress). p.1.count) c.tell.ensures.value in
@@ -69,7 +69,7 @@ prod-more-preserved t c =
       c.tell.ensures.same ∙ c.in_ok-factor-2.ensures.same ∙ c.more.invariant.2,
       λ o held first took.
           let same = c.more.invariant.2 ∙ held in
-          prod-turn (c.more.invariant.3 o held first took) (here same c.see-seen.ensures) (sym c.in-Multiplicative.ensures) c.pass.ensures (on c.in_ok-factor-2.ensures.reads same) c.operator_kind.ensures first c.tell.ensures.value,
+          prod-turn (c.more.invariant.3 o held first took) (here same c.see-seen.ensures) (sym c.in-Some-Multiplicative.ensures ∙ ap Some c.in-Some-Multiplicative.field-0-is) c.pass.ensures (on c.in_ok-factor-2.ensures.reads same) c.from.ensures first c.tell.ensures.value,
     )
 
 pub sum-returns-in_default-clause-reads : goal.sum-returns-in_default-clause-reads
@@ -77,15 +77,14 @@ sum-returns-in_default-clause-reads t c =
     let same = c.more.invariant.2 ∙ c.in_ok-prod.ensures.same in
     let first = c.in_ok-prod.ensures.reads.answer in
     let took = c.more.invariant.3 c.args.self.now c.in_ok-prod.ensures.same refl (sum_first first.0 first.1) in
-    record { answer = sum-read took (here same c.see-seen.ensures) (λ o e. c.in_default.not-Additive o (c.join.ensures ∙ e)) }
+    record { answer = sum-read took (here same c.see-seen.ensures) (search rules) }
 
 pub sum-returns-in_err-prod-2-clause-reads : goal.sum-returns-in_err-prod-2-clause-reads
 sum-returns-in_err-prod-2-clause-reads t c =
-    let p = err_from_is_err_and c.from_residual-in_err-prod-2.result c.from_residual-in_err-prod-2.ensures.1 in
     let same = c.more.invariant.2 ∙ c.in_ok-prod.ensures.same in
     let first = c.in_ok-prod.ensures.reads.answer in
     let took = c.more.invariant.3 c.args.self.now c.in_ok-prod.ensures.same refl (sum_first first.0 first.1) in
-    rw (p.1, p.2) (record { answer = sum-refused took (here same c.see-seen.ensures) (sym c.in-Additive.ensures) c.pass.ensures (on c.in_err-prod-2.ensures.reads same) })
+    stops (err_from_is_err_and c.from_residual-in_err-prod-2.result c.from_residual-in_err-prod-2.ensures.1) (sum-refused took (here same c.see-seen.ensures) (sym c.in-Some-Additive.ensures ∙ ap Some c.in-Some-Additive.field-0-is) c.pass.ensures (on c.in_err-prod-2.ensures.reads same))
 
 pub sum-more-preserved : goal.sum-more-preserved
 sum-more-preserved t c =
@@ -93,7 +92,7 @@ sum-more-preserved t c =
     let z : Progress = c.prod-in-more.new.self.progress in
     let s : Seen = c.see-seen.result in
     let next = c.in_ok-prod-2.ensures.reads.answer.0 in
-    let lt : y.position.at < s.end = further _ c.see-seen.ensures (additive-taken (sym c.in-Additive.ensures)) tt in
+    let lt : y.position.at < s.end = further _ c.see-seen.ensures (additive-taken (sym c.in-Some-Additive.ensures ∙ ap Some c.in-Some-Additive.field-0-is)) tt in
     let n : c.pass.new.self.count ≡ y.count = ap (λ (p : Progress). p.count) c.pass.ensures in
     let e : c.pass.new.self.position.at ≡ s.end = ap (λ (p : Progress). p.position.at) c.pass.ensures in
     let zn : c.tell.new.self.progress.count ≡ suc z.count = ap (λ (p : List Row × Progress). p.1.count) c.tell.ensures.value in
@@ -104,5 +103,5 @@ sum-more-preserved t c =
       λ o held first took.
           let same = c.more.invariant.2 ∙ held in
           let more = on c.in_ok-prod-2.ensures.reads same in
-          sum-turn (c.more.invariant.3 o held first took) (here same c.see-seen.ensures) (sym c.in-Additive.ensures) c.pass.ensures more.0 more.1 c.operator_kind.ensures first c.tell.ensures.value,
+          sum-turn (c.more.invariant.3 o held first took) (here same c.see-seen.ensures) (sym c.in-Some-Additive.ensures ∙ ap Some c.in-Some-Additive.field-0-is) c.pass.ensures more.0 more.1 c.from.ensures first c.tell.ensures.value,
     )
