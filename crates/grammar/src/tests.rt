@@ -17,53 +17,41 @@ fn first(text: &str) -> Result<Lexeme, Fail> {
 
 #[test]
 fn numbers_up_to_the_largest(rt: HostRuntime) -> Result<(), Fail> {
-    for (text, value) in [
-        ("0", Some(0)),
-        ("007;", Some(7)),
-        ("2147483647", Some(2147483647)),
-        ("2147483648", None),
-        ("4294967297", None),
-        ("18446744073709551617", None),
-        ("000000000000000000000000000000001", Some(1)),
+    for (text, operand) in [
+        ("0", Ok(Operand::Number(0))),
+        ("007;", Ok(Operand::Number(7))),
+        ("2147483647", Ok(Operand::Number(2147483647))),
+        ("2147483648", Err(ReaderCause::NumberTooLarge)),
+        ("4294967297", Err(ReaderCause::NumberTooLarge)),
+        ("18446744073709551617", Err(ReaderCause::NumberTooLarge)),
+        ("000000000000000000000000000000001", Ok(Operand::Number(1))),
     ] {
-        match first(text)?.operand() {
-            Ok(Operand::Number(read)) => assert_eq!(rt; value, Some(read)),
-            Err(ReaderCause::NumberTooLarge) => assert_eq!(rt; value, None),
-            _ => assert!(rt; false),
-        }
+        assert_eq!(rt; first(text)?.operand(), operand);
     }
     Ok(())
 }
 
 #[test]
 fn names_by_their_points(rt: HostRuntime) -> Result<(), Fail> {
-    for (text, point) in [
-        ("locked", Some(0)),
-        (" back=1;", Some(2)),
-        ("backs", None),
-        ("If", None),
+    for (text, start) in [
+        ("locked", Ok(CommandStart::Set(0))),
+        (" back=1;", Ok(CommandStart::Set(2))),
+        ("backs", Err(ReaderCause::UnlistedName)),
+        ("If", Err(ReaderCause::UnlistedName)),
     ] {
-        match first(text)?.command_start() {
-            Ok(CommandStart::Set(found)) => assert_eq!(rt; point, Some(found)),
-            Err(ReaderCause::UnlistedName) => assert_eq!(rt; point, None),
-            _ => assert!(rt; false),
-        }
+        assert_eq!(rt; first(text)?.command_start(), start);
     }
     Ok(())
 }
 
 #[test]
 fn truths_begin_literals(rt: HostRuntime) -> Result<(), Fail> {
-    for (text, truth) in [
-        ("true", Some(true)),
-        ("false", Some(false)),
-        ("truth", None),
+    for (text, start) in [
+        ("true", LiteralStart::Truth(true)),
+        ("false", LiteralStart::Truth(false)),
+        ("truth", LiteralStart::Sum),
     ] {
-        match first(text)?.literal_start() {
-            LiteralStart::Truth(value) => assert_eq!(rt; truth, Some(value)),
-            LiteralStart::Sum => assert_eq!(rt; truth, None),
-            _ => assert!(rt; false),
-        }
+        assert_eq!(rt; first(text)?.literal_start(), start);
     }
     Ok(())
 }
