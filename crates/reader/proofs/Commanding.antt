@@ -26,16 +26,7 @@ use Rattle.reader.specs.Ordering.{pushed, JoinedInPlace, place_ahead, EndsSheet,
 use Rattle.reader.proofs.Nexts.{sheet-ends, further, next, taking, refusing, seen-refused, set-taken, if-taken, while-taken, close-block-taken, end-taken, else-taken}
 use Rattle.reader.proofs.Entering.{Entered, Barred}
 use Rattle.reader.proofs.Bracketing.{passed-open-block, passed-semicolon, passed-becomes, room-left, no_room, between}
-use Rattle.reader.proofs.Writing.{sum-long, condition-long, command-long, sheet-long, before, beyond, one_told, two-told, three-told}
-
--- one token further
-record Further (a z : Progress) (s : Seen) : Type 0 where
-  count : z.count ≡ a.count
-  depth : z.depth ≡ a.depth
-  at : z.position.at ≡ s.end
-
-gone : (a : Progress) {z : Progress} (s : Seen) → z ≡ read_on a s → Further a z s
-gone a s e = record { count = ap (λ (z : Progress). z.count) e; depth = ap (λ (z : Progress). z.depth) e; at = ap (λ (z : Progress). z.position.at) e }
+use Rattle.reader.proofs.Writing.{Further, gone, sum-long, condition-long, command-long, sheet-long, before, beyond, one_told, two-told, three-told}
 
 again : (names : List (List ℕ)) (text : List ℕ) (a : Progress) {z : Progress} (s : Seen) → z ≡ read_on a s → (m : State) → run (ahead names text s.end) a.depth m ≡ from names text z m
 again names text a s e m = sym (ap (λ (z : Progress). from names text z m) e)

@@ -27,17 +27,15 @@ use Rattle.reader.specs.Progressing.{told, told_leaf, read_on, Passed, Missed, W
 use Rattle.reader.specs.Summing.{behind_sum, NoFactor, NoProd, SumSoFar, TookSum, TookProd, TookFactor}
 use Rattle.reader.proofs.Entering.{Entered, Barred}
 use Rattle.reader.proofs.Nexts.{number-taken, name-taken, bracket-taken, additive-taken, multiplicative-taken, close-taken, further, taking, refusing, seen-refused}
-use Rattle.reader.proofs.Writing.{sum-long, before, within-told, leaf-told, two-told}
+use Rattle.reader.proofs.Writing.{Further, gone, sum-long, before, within-told, leaf-told, two-told}
 
 -- a row for two sums, the sign's byte pays for it
 worked : {text : List ℕ} {a y y' z z' : Progress} {old mid late new : List Row} (s : Seen) (o : Operator) {c : Kind} {first : ℕ} (l r : Sum) → Wrote text a old y mid (sum_rows l) → Wrote text y' mid z late (sum_rows r) → y' ≡ read_on y s → y.position.at < s.end → c ≡ operator_kind o → first ≡ a.count → (new, z') ≡ told late z c (pos 0) first s.place → Wrote text a old z' new (sum_rows (work s.place o l r))
 worked {text} {a} {y} {y'} {z} {z'} {old} {mid} {late} {new} s o {c} {first} l r v w on lt ec ef e =
-    let yc : y'.count ≡ y.count = ap (λ (p : Progress). p.count) on in
-    let yd : y'.depth ≡ y.depth = ap (λ (p : Progress). p.depth) on in
-    let ya : y'.position.at ≡ s.end = ap (λ (p : Progress). p.position.at) on in
-    let le : y.position.at ≤ y'.position.at = omega arith in
-    let spare : suc (z.count + a.position.at) ≤ z.position.at + a.count = omega (arith, v.few, w.few) in
-    two-told (operator_kind o) (pos 0) s.place (sum_size l) (sum_size r) (e ∙ ap (λ k. told late z k (pos 0) first s.place) ec ∙ ap (λ n. told late z (operator_kind o) (pos 0) n s.place) ef) v (before y yc yd le w) (sum-long l) (sum-long r) spare
+    let past : Further y y' s = gone y s on in
+    let le : y.position.at ≤ y'.position.at = omega (arith, past.at) in
+    let spare : suc (z.count + a.position.at) ≤ z.position.at + a.count = omega (arith, v.few, w.few, past.at, past.count) in
+    two-told (operator_kind o) (pos 0) s.place (sum_size l) (sum_size r) (e ∙ ap (λ k. told late z k (pos 0) first s.place) ec ∙ ap (λ n. told late z (operator_kind o) (pos 0) n s.place) ef) v (before y past.count past.depth le w) (sum-long l) (sum-long r) spare
 
 nothing-joins : (j : Option Join) → NoFactor j → ((o : Operator) → j ≡ Some (join.Additive o) → ⊥) → j ≡ None
 nothing-joins (Some (join.Additive o)) f n = absurd (n o refl)

@@ -9,7 +9,7 @@ use Rattle.tables.specs.Rows.{row, sum_size, condition_size, command_size, sheet
 use Rattle.tables.proofs.OfSort.{length-in}
 use Rattle.reader.specs.declared.seen.Seen.{Seen}
 use Rattle.reader.specs.declared.progress.Progress.{Progress}
-use Rattle.reader.specs.Progressing.{told, told_leaf, put, Wrote}
+use Rattle.reader.specs.Progressing.{read_on, told, told_leaf, put, Wrote}
 
 -- a tree has as many rows as its size says
 
@@ -30,6 +30,23 @@ put-++ old i [] ss = let e : i ≡ i + 0 = omega arith in ap (λ n. put old n ss
 put-++ old i (r ∷ rs) ss =
     let e : suc i + length rs ≡ i + suc (length rs) = omega arith in
     put-++ (set old i r) (suc i) rs ss ∙ ap (λ n. put (put (set old i r) (suc i) rs) n ss) e
+
+-- one token further
+pub record Further (a z : Progress) (s : Seen) : Type 0 where
+  pub count : z.count ≡ a.count
+  pub depth : z.depth ≡ a.depth
+  pub at : z.position.at ≡ s.end
+
+pub gone : (a : Progress) {z : Progress} (s : Seen) → z ≡ read_on a s → Further a z s
+gone a s e = record { count = ap (λ (z : Progress). z.count) e; depth = ap (λ (z : Progress). z.depth) e; at = ap (λ (z : Progress). z.position.at) e }
+
+-- one row more
+pub record Grown (a z : Progress) : Type 0 where
+  pub count : z.count ≡ suc a.count
+  pub at : z.position.at ≡ a.position.at
+
+pub grown : (a : Progress) {z : Progress} {new rows : List Row} → ◌≡◌ {A = List Row × Progress} (new, z) (rows, record { position = a.position; count = suc a.count; depth = a.depth }) → Grown a z
+grown a e = record { count = ap (λ (p : List Row × Progress). p.1.count) e; at = ap (λ (p : List Row × Progress). p.1.position.at) e }
 
 -- tokens in front of what was told, and behind it
 

@@ -50,7 +50,11 @@ pub record HereIs (names : List (List ℕ)) (text : List ℕ) (at : ℕ) (s : Se
 abbrev pub refused_at : Seen → Refusal
 refused_at s = record { cause = refusal_of s.lexeme; place = s.place }
 
--- what it is at a place, or the refusal there
+-- a refusal of it, for a cause of its own
+abbrev pub refused_for : Seen → ReaderCause → Refusal
+refused_for s c = record { cause = c; place = s.place }
+
+-- what it is where it is wanted as something, or the refusal of it
 abbrev pub seen_as : {A : Type 0} → Seen → Result A ReaderCause → Result A Refusal
 seen_as s (Ok x) = Ok x
-seen_as s (Err c) = Err (record { cause = c; place = s.place })
+seen_as s (Err c) = Err (refused_for s c)

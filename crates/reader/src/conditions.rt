@@ -1,4 +1,5 @@
-// Conditions, conjuncts and literals: they call each other, and group from the right.
+// Conditions, conjuncts and literals: they call each other, and group from the right. Each rule of the grammar has its
+// function: one for conditions and conjuncts both would take the part, its sign and what they mean, and be no plainer.
 ghost use Rattle.std.specs.Prelude.{◌≡◌};
 ghost use Rattle.reader.specs.Judging.{ConditionAnswer, ConjunctAnswer, LiteralAnswer, BracketAnswer, ComparisonAnswer};
 

@@ -29,10 +29,7 @@ impl Progress {
         ensures { (result, self.new) ≡ opened self.old seen }
     {
         if self.depth >= MOST_OPEN {
-            return Err(Refusal {
-                cause: ReaderCause::TooManyOpen,
-                place: seen.place,
-            });
+            return Err(seen.refused(ReaderCause::TooManyOpen));
         }
         self.depth += 1;
         self.position.at = seen.end;

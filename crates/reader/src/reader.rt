@@ -23,7 +23,7 @@ pub(crate) struct Reader<'a> {
     ghost stands: { Stands (lines_of names.text.now) text.now progress },
 }
 
-impl<'a> Reader<'a> {
+impl Reader<'_> {
     ghost use Rattle.reader.specs.Holding.{held};
 
     // The token at the position or after it. The position stays.

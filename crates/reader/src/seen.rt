@@ -1,7 +1,7 @@
 // The next token, as the grammar sees it.
 ghost use Rattle.std.specs.Prelude.{◌≡◌};
 ghost use Rattle.grammar.specs.Choices.{operand_of, command_of};
-ghost use Rattle.reader.specs.Ahead.{refused_at, seen_as};
+ghost use Rattle.reader.specs.Ahead.{refused_for, refused_at, seen_as};
 ghost use Rattle.reader.specs.Reading.{reader_fault};
 
 use faults::{Fault, Layer, ReaderCause};
@@ -47,8 +47,9 @@ impl Seen {
             .map_err(|cause| self.refused(cause))
     }
 
-    fn refused(self, cause: ReaderCause) -> Refusal
-        ensures { result ≡ record { cause = cause; place = self.place } }
+    // A refusal of it, for this cause.
+    pub(crate) fn refused(self, cause: ReaderCause) -> Refusal
+        ensures { result ≡ refused_for self cause }
     {
         Refusal {
             cause,

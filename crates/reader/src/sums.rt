@@ -1,4 +1,5 @@
-// Sums, prods and factors: they call each other, and each row is written behind its parts'.
+// Sums, prods and factors: they call each other, and each row is written behind its parts'. Each rule of the grammar has
+// its function: one for sums and prods both would take the part, its sign and what they mean, and be no plainer.
 ghost use Rattle.std.specs.Prelude.{◌≡◌};
 ghost use Rattle.reader.specs.Summing.{SumAnswer, ProdAnswer, FactorAnswer};
 

@@ -1,13 +1,12 @@
 -- The machine at each way out; what it does between is in Summed.
-use Rattle.std.proofs.Common.{◌≡◌, suc, ◌<◌, List, Some, sym, refl, ap, ◌∙◌, arith, w32, SFits, to_z, of_z, rules}
+use Rattle.std.proofs.Common.{◌<◌, Some, sym, refl, ap, ◌∙◌, arith, w32, SFits, to_z, of_z, rules}
 use Rattle.std.proofs.lemmas.Result.{err_from_is_err_and}
 use Rattle.std.proofs.lemmas.Int.{to_z-of_z}
-use Rattle.tables.specs.declared.row.Row.{Row}
 use Rattle.reader.specs.declared.seen.Seen.{Seen}
-use Rattle.reader.specs.declared.progress.Progress.{Progress}
 use Rattle.reader.proofs.Carrying.{stops, on, here, passed, missed}
 use Rattle.reader.proofs.Entering.{entered, barred}
 use Rattle.reader.proofs.Nexts.{additive-taken, multiplicative-taken, further, seen-taken}
+use Rattle.reader.proofs.Writing.{Further, gone, Grown, grown}
 use Rattle.reader.proofs.Summed.{number_read, name-read, no-factor, bracket-barred, bracket-refused, bracket-unclosed, bracket-read, prod-first, prod-refused, prod-turn, sum_first, sum-refused, sum-turn, sum-read}
 use Rattle.reader.proofs.reader.Reader.+factor_prod_sum.Goals as goal
 
@@ -55,21 +54,18 @@ prod-returns-in_err-factor-2-clause-reads t c =
 
 pub prod-more-preserved : goal.prod-more-preserved
 prod-more-preserved t c =
-    let y : Progress = c.more.self.progress in
-    let z : Progress = c.factor-in-more.new.self.progress in
     let s : Seen = c.see-seen.result in
+    let is = sym c.in-Some-Multiplicative.ensures ∙ ap Some c.in-Some-Multiplicative.field-0-is in
     let next = c.in_ok-factor-2.ensures.reads.answer in
-    let lt : y.position.at < s.end = further _ c.see-seen.ensures (multiplicative-taken (sym c.in-Some-Multiplicative.ensures ∙ ap Some c.in-Some-Multiplicative.field-0-is)) tt in
-    let n : c.pass.new.self.count ≡ y.count = ap (λ (p : Progress). p.count) c.pass.ensures in
-    let e : c.pass.new.self.position.at ≡ s.end = ap (λ (p : Progress). p.position.at) c.pass.ensures in
-    let zn : c.tell.new.self.progress.count ≡ suc z.count = ap (λ (p : List Row × Progress). p.1.count) c.tell.ensures.value in
-    let ze : c.tell.new.self.progress.position.at ≡ z.position.at = ap (λ (p : List Row × Progress). p.1.position.at) c.tell.ensures.value in (
-      omega (arith, next.wrote.count, c.more.invariant.0),
-      omega (arith, next.wrote.moved, c.more.invariant.1),
+    let lt : c.more.self.progress.position.at < s.end = further _ c.see-seen.ensures (multiplicative-taken is) tt in
+    let past : Further c.more.self.progress c.pass.new.self s = gone _ s c.pass.ensures in
+    let row : Grown c.factor-in-more.new.self.progress c.tell.new.self.progress = grown c.factor-in-more.new.self.progress c.tell.ensures.value in (
+      omega (arith, next.wrote.count, past.count, row.count, c.more.invariant.0),
+      omega (arith, next.wrote.moved, past.at, row.at, c.more.invariant.1),
       c.tell.ensures.same ∙ c.in_ok-factor-2.ensures.same ∙ c.more.invariant.2,
       λ o held first took.
           let same = c.more.invariant.2 ∙ held in
-          prod-turn (c.more.invariant.3 o held first took) (here same c.see-seen.ensures) (sym c.in-Some-Multiplicative.ensures ∙ ap Some c.in-Some-Multiplicative.field-0-is) c.pass.ensures (on c.in_ok-factor-2.ensures.reads same) c.from.ensures first c.tell.ensures.value,
+          prod-turn (c.more.invariant.3 o held first took) (here same c.see-seen.ensures) is c.pass.ensures (on c.in_ok-factor-2.ensures.reads same) c.from.ensures first c.tell.ensures.value,
     )
 
 pub sum-returns-in_default-clause-reads : goal.sum-returns-in_default-clause-reads
@@ -88,20 +84,17 @@ sum-returns-in_err-prod-2-clause-reads t c =
 
 pub sum-more-preserved : goal.sum-more-preserved
 sum-more-preserved t c =
-    let y : Progress = c.more.self.progress in
-    let z : Progress = c.prod-in-more.new.self.progress in
     let s : Seen = c.see-seen.result in
+    let is = sym c.in-Some-Additive.ensures ∙ ap Some c.in-Some-Additive.field-0-is in
     let next = c.in_ok-prod-2.ensures.reads.answer.0 in
-    let lt : y.position.at < s.end = further _ c.see-seen.ensures (additive-taken (sym c.in-Some-Additive.ensures ∙ ap Some c.in-Some-Additive.field-0-is)) tt in
-    let n : c.pass.new.self.count ≡ y.count = ap (λ (p : Progress). p.count) c.pass.ensures in
-    let e : c.pass.new.self.position.at ≡ s.end = ap (λ (p : Progress). p.position.at) c.pass.ensures in
-    let zn : c.tell.new.self.progress.count ≡ suc z.count = ap (λ (p : List Row × Progress). p.1.count) c.tell.ensures.value in
-    let ze : c.tell.new.self.progress.position.at ≡ z.position.at = ap (λ (p : List Row × Progress). p.1.position.at) c.tell.ensures.value in (
-      omega (arith, next.wrote.count, c.more.invariant.0),
-      omega (arith, next.wrote.moved, c.more.invariant.1),
+    let lt : c.more.self.progress.position.at < s.end = further _ c.see-seen.ensures (additive-taken is) tt in
+    let past : Further c.more.self.progress c.pass.new.self s = gone _ s c.pass.ensures in
+    let row : Grown c.prod-in-more.new.self.progress c.tell.new.self.progress = grown c.prod-in-more.new.self.progress c.tell.ensures.value in (
+      omega (arith, next.wrote.count, past.count, row.count, c.more.invariant.0),
+      omega (arith, next.wrote.moved, past.at, row.at, c.more.invariant.1),
       c.tell.ensures.same ∙ c.in_ok-prod-2.ensures.same ∙ c.more.invariant.2,
       λ o held first took.
           let same = c.more.invariant.2 ∙ held in
           let more = on c.in_ok-prod-2.ensures.reads same in
-          sum-turn (c.more.invariant.3 o held first took) (here same c.see-seen.ensures) (sym c.in-Some-Additive.ensures ∙ ap Some c.in-Some-Additive.field-0-is) c.pass.ensures more.0 more.1 c.from.ensures first c.tell.ensures.value,
+          sum-turn (c.more.invariant.3 o held first took) (here same c.see-seen.ensures) is c.pass.ensures more.0 more.1 c.from.ensures first c.tell.ensures.value,
     )
