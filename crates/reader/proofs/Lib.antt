@@ -3,8 +3,8 @@ pub mod Nexts
 pub mod Seeing
 pub mod Entering
 pub mod Carrying
-pub mod Summed
 pub mod Bracketing
+pub mod Summed
 pub mod Conditioning
 pub mod Commanding
 pub mod Wholly
