@@ -2,35 +2,32 @@
 use Rattle.std.proofs.Common.{◌≡◌, ℕ, suc, pred, ◌≤◌, List, length, sym, ap, ◌∙◌}
 use Rattle.faults.specs.declared.causes.ReaderCause.TheVariants.{TooManyOpen}
 use Rattle.tables.specs.declared.row.Row.{Row}
-use Rattle.grammar.specs.declared.lexeme.Lexeme.TheVariants as lexeme
-use Rattle.grammar.specs.declared.choice.Mark.TheVariants.{Open, Close, OpenBlock, Semicolon, Becomes}
-use Rattle.grammar.specs.Lexemes.{Tok}
-use Rattle.grammar.specs.Machine.{State, refused, room, run}
+use Rattle.grammar.specs.declared.choice.Mark.{Mark}
+use Rattle.grammar.specs.Choices.{mark_of}
+use Rattle.grammar.specs.Lexemes.{Tok, tok}
+use Rattle.grammar.specs.Machine.{State, refused, refuse, room, run}
 use Rattle.grammar.proofs.Lexing.{run-refused}
 use Rattle.reader.specs.declared.seen.Seen.{Seen}
 use Rattle.reader.specs.declared.seen.Refusal.{Refusal}
 use Rattle.reader.specs.declared.progress.Progress.{Progress}
+<<<<<<< HEAD
 use Rattle.reader.specs.Progressing.{Passed, Wrote}
 use Rattle.reader.proofs.Entering.{Entered, Barred}
 use Rattle.reader.proofs.Writing.{within-told}
 use Rattle.reader.proofs.Nexts.{open-taken, close-taken, open-block-taken, semicolon-taken, becomes-taken}
+=======
+use Rattle.reader.specs.Ahead.{ahead, follow}
+use Rattle.reader.specs.Progressing.{if_mark, Missed, Wrote}
+use Rattle.reader.proofs.Entering.{Entered, Barred}
+use Rattle.reader.proofs.Writing.{within-told}
+>>>>>>> e90c41ef4887992f3ccc752b28d6dcfc658f1985
 
--- which token it is
+-- the machine refuses what is not the one that was expected
 
-pub passed-open : {names : List (List ℕ)} {text : List ℕ} {a z : Progress} {s : Seen} → Passed Open names text a z s → s.lexeme ≡ lexeme.Open
-passed-open p = open-taken p.is
-
-pub passed-close : {names : List (List ℕ)} {text : List ℕ} {a z : Progress} {s : Seen} → Passed Close names text a z s → s.lexeme ≡ lexeme.Close
-passed-close p = close-taken p.is
-
-pub passed-open-block : {names : List (List ℕ)} {text : List ℕ} {a z : Progress} {s : Seen} → Passed OpenBlock names text a z s → s.lexeme ≡ lexeme.OpenBlock
-passed-open-block p = open-block-taken p.is
-
-pub passed-semicolon : {names : List (List ℕ)} {text : List ℕ} {a z : Progress} {s : Seen} → Passed Semicolon names text a z s → s.lexeme ≡ lexeme.Semicolon
-passed-semicolon p = semicolon-taken p.is
-
-pub passed-becomes : {names : List (List ℕ)} {text : List ℕ} {a z : Progress} {s : Seen} → Passed Becomes names text a z s → s.lexeme ≡ lexeme.Becomes
-passed-becomes p = becomes-taken p.is
+pub missing : {names : List (List ℕ)} {text : List ℕ} {wanted : Mark} {a : Progress} {r : Refusal} (m : Missed wanted names text a r) (d : ℕ) (go : State) → run (follow m.seen.lexeme (ahead names text m.seen.end)) d (if_mark wanted (mark_of m.seen.lexeme) go (refuse (tok m.seen.place m.seen.lexeme))) ≡ refused r.cause r.place
+missing {names} {text} m d go =
+    let rest : List Tok = follow m.seen.lexeme (ahead names text m.seen.end) in
+    ap (λ q. run rest d q) (m.not _ _) ∙ run-refused rest d _ _ ∙ sym (ap (λ (r : Refusal). refused r.cause r.place) m.refusal)
 
 -- the machine goes on behind a bracket, or refuses it
 

@@ -23,9 +23,15 @@ use Rattle.reader.specs.Progressing.{read_on, told, Passed, Missed, from}
 use Rattle.reader.specs.Summing.{TookSum, behind_sum}
 use Rattle.reader.specs.Judging.{TookBracket}
 use Rattle.reader.specs.Ordering.{pushed, JoinedInPlace, place_ahead, EndsSheet, EndAhead, Inner, Wanting, TookCommand, TookSheet, TookBlock, Begins}
+<<<<<<< HEAD
 use Rattle.reader.proofs.Nexts.{sheet-ends, further, next, taking, refusing, seen-refused, set-taken, if-taken, while-taken, close-block-taken, end-taken, else-taken}
 use Rattle.reader.proofs.Entering.{Entered, Barred}
 use Rattle.reader.proofs.Bracketing.{passed-open-block, passed-semicolon, passed-becomes, room-left, no_room, between}
+=======
+use Rattle.reader.proofs.Nexts.{sheet-ends, further, next, taking, refusing, seen-refused, set-taken, if-taken, while-taken, close-block-taken, end-taken, else-taken, becomes-taken, open-block-taken, semicolon-taken}
+use Rattle.reader.proofs.Entering.{Entered, Barred}
+use Rattle.reader.proofs.Bracketing.{missing, room-left, no_room, between}
+>>>>>>> e90c41ef4887992f3ccc752b28d6dcfc658f1985
 use Rattle.reader.proofs.Writing.{Further, gone, sum-long, condition-long, command-long, sheet-long, before, beyond, one_told, two-told, three-told}
 
 again : (names : List (List ℕ)) (text : List ℕ) (a : Progress) {z : Progress} (s : Seen) → z ≡ read_on a s → (m : State) → run (ahead names text s.end) a.depth m ≡ from names text z m
@@ -40,10 +46,10 @@ set_on : {names : List (List ℕ)} {text : List ℕ} {a x : Progress} {s : Seen}
 set_on {names} {text} {a} {x} {s} {p} g on cs b = taking (lexeme.Name p) g.here (set-taken g.is) a.depth (cmd cs b) ∙ again names text a s on (becomes s.place p cs b)
 
 becomes-on : {names : List (List ℕ)} {text : List ℕ} {a z : Progress} {s : Seen} → Passed mark.Becomes names text a z s → (p x : ℕ) (cs : List Command) (b : Block) → from names text a (becomes p x cs b) ≡ from names text z (want none none (to_set p x cs b))
-becomes-on {names} {text} {a} {z} {s} h p x cs b = taking lexeme.Becomes h.here (passed-becomes h) a.depth (becomes p x cs b) ∙ again names text a s h.on (want none none (to_set p x cs b))
+becomes-on {names} {text} {a} {z} {s} h p x cs b = taking lexeme.Becomes h.here (becomes-taken h.is) a.depth (becomes p x cs b) ∙ again names text a s h.on (want none none (to_set p x cs b))
 
 semicolon-on : {names : List (List ℕ)} {text : List ℕ} {a z : Progress} {s : Seen} → Passed mark.Semicolon names text a z s → (p x : ℕ) (e : Sum) (cs : List Command) (b : Block) → behind_sum (to_set p x cs b) e (ahead names text a.position.at) a.depth ≡ from names text z (cmd (set p x e ∷ cs) b)
-semicolon-on {names} {text} {a} {z} {s} h p x e cs b = ap (λ ts. behind_sum (to_set p x cs b) e ts a.depth) (next lexeme.Semicolon h.here (passed-semicolon h)) ∙ again names text a s h.on (cmd (set p x e ∷ cs) b)
+semicolon-on {names} {text} {a} {z} {s} h p x e cs b = ap (λ ts. behind_sum (to_set p x cs b) e ts a.depth) (next lexeme.Semicolon h.here (semicolon-taken h.is)) ∙ again names text a s h.on (cmd (set p x e ∷ cs) b)
 
 placed : {names : List (List ℕ)} {text : List ℕ} {at : ℕ} {s : Seen} → HereIs names text at s → s.place ≡ place_ahead (ahead names text at)
 placed h = sym (ap place_ahead h.tokens)
@@ -55,8 +61,8 @@ set-read {names} {text} {a} {x} {y} {v} {z} {w} {old} {mid} {new} {s} {t} {e} {p
     let gx : Further x y t = gone x t equals.on in
     let gv : Further v z e = gone v e semicolon.on in
     let lt : a.position.at < s.end = further (lexeme.Name p) g.here (set-taken g.is) tt in
-    let lt-x : x.position.at < t.end = further lexeme.Becomes equals.here (passed-becomes equals) tt in
-    let lt-v : v.position.at < e.end = further lexeme.Semicolon semicolon.here (passed-semicolon semicolon) tt in
+    let lt-x : x.position.at < t.end = further lexeme.Becomes equals.here (becomes-taken equals.is) tt in
+    let lt-v : v.position.at < e.end = further lexeme.Semicolon semicolon.here (semicolon-taken semicolon.is) tt in
     let end : z.position.at ≤ length text = rw gv.at (semicolon.here.within took.wrote.within) in
     let pays : suc (suc (z.count + a.position.at)) ≤ z.position.at + a.count = omega (arith, took.wrote.few, ga.at, ga.count, gx.at, gx.count, gv.at, gv.count) in
     subst P (sym row) (record {
@@ -72,22 +78,15 @@ set-read {names} {text} {a} {x} {y} {v} {z} {w} {old} {mid} {new} {s} {t} {e} {p
     })
 
 pub no-becomes : {names : List (List ℕ)} {text : List ℕ} {a x : Progress} {s : Seen} {p : ℕ} {r : Refusal} → Begins (command.Set p) names text a s → x ≡ read_on a s → Missed mark.Becomes names text x r → (cs : List Command) (b : Block) → Wanting cs (ahead names text a.position.at) → from names text a (cmd cs b) ≡ refused r.cause r.place
-no-becomes {names} {text} {a} {x} {s} {p} {r} g on m cs b w =
-    let n = m.seen in
-    let rest = follow n.lexeme (ahead names text n.end) in
-    set_on g on cs b ∙ taking n.lexeme m.here refl x.depth (becomes s.place p cs b)
-    ∙ ap (λ q. run rest (depth_after n.lexeme x.depth) q) (m.not _ _) ∙ run-refused rest _ _ _ ∙ why-refused m.refusal
+no-becomes {x = x} {s} {p} g on m cs b w = set_on g on cs b ∙ taking m.seen.lexeme m.here refl x.depth (becomes s.place p cs b) ∙ missing m _ _
 
 pub no-sum : {names : List (List ℕ)} {text : List ℕ} {a x y : Progress} {s t : Seen} {p : ℕ} {r : Refusal} → Begins (command.Set p) names text a s → x ≡ read_on a s → Passed mark.Becomes names text x y t → ((k : Use) → from names text y (want none none k) ≡ refused r.cause r.place) → (cs : List Command) (b : Block) → Wanting cs (ahead names text a.position.at) → from names text a (cmd cs b) ≡ refused r.cause r.place
 no-sum {s = s} {p = p} g on equals refusal cs b w = set_on g on cs b ∙ becomes-on equals s.place p cs b ∙ refusal (to_set s.place p cs b)
 
 pub no-semicolon : {names : List (List ℕ)} {text : List ℕ} {a x y v : Progress} {old mid : List Row} {s t : Seen} {p : ℕ} {r : Refusal} → Begins (command.Set p) names text a s → x ≡ read_on a s → Passed mark.Becomes names text x y t → TookSum names text y old v mid → Missed mark.Semicolon names text v r → (cs : List Command) (b : Block) → Wanting cs (ahead names text a.position.at) → from names text a (cmd cs b) ≡ refused r.cause r.place
-no-semicolon {names} {text} {a} {x} {y} {v} {s = s} {p = p} g on equals took m cs b w =
-    let n = m.seen in
-    let rest = follow n.lexeme (ahead names text n.end) in
+no-semicolon {v = v} {s = s} {p = p} g on equals took m cs b w =
     set_on g on cs b ∙ becomes-on equals s.place p cs b ∙ took.moves (to_set s.place p cs b)
-    ∙ ap (λ ts. behind_sum (to_set s.place p cs b) took.tree ts v.depth) m.here.tokens
-    ∙ ap (λ q. run rest (depth_after n.lexeme v.depth) q) (m.not _ _) ∙ run-refused rest _ _ _ ∙ why-refused m.refusal
+    ∙ ap (λ ts. behind_sum (to_set s.place p cs b) took.tree ts v.depth) m.here.tokens ∙ missing m _ _
 
 -- if and while, by their words
 
@@ -189,21 +188,17 @@ block_on : {names : List (List ℕ)} {text : List ℕ} {a y x : Progress} {s : S
 block_on {names} {text} {a} {y} {x} {s} p inside b =
     let R : Progress → Type 0 = λ y. Entered y s x in
     let e : Entered (read_on a s) s x = subst R p.on inside in
-    taking lexeme.OpenBlock p.here (passed-open-block p) a.depth (blocking b)
+    taking lexeme.OpenBlock p.here (open-block-taken p.is) a.depth (blocking b)
     ∙ room-left e (ahead names text s.end) (cmd [] b)
     ∙ sym (ap (λ (x : Progress). from names text x (cmd [] b)) e.on)
 
 pub block-missed : {names : List (List ℕ)} {text : List ℕ} {a : Progress} {r : Refusal} → Missed mark.OpenBlock names text a r → (b : Block) → Inner b → from names text a (blocking b) ≡ refused r.cause r.place
-block-missed {names} {text} {a} {r} m b i =
-    let s = m.seen in
-    let rest = follow s.lexeme (ahead names text s.end) in
-    taking s.lexeme m.here refl a.depth (blocking b)
-    ∙ ap (λ q. run rest (depth_after s.lexeme a.depth) q) (m.not _ _) ∙ run-refused rest _ _ _ ∙ why-refused m.refusal
+block-missed {a = a} m b i = taking m.seen.lexeme m.here refl a.depth (blocking b) ∙ missing m _ _
 
 pub block-crowded : {names : List (List ℕ)} {text : List ℕ} {a y : Progress} {s : Seen} {r : Refusal} → Passed mark.OpenBlock names text a y s → Barred y s r → (b : Block) → Inner b → from names text a (blocking b) ≡ refused r.cause r.place
 block-crowded {names} {text} {a} {y} {s} {r} p many b i =
     let R : Progress → Type 0 = λ y. Barred y s r in
-    taking lexeme.OpenBlock p.here (passed-open-block p) a.depth (blocking b)
+    taking lexeme.OpenBlock p.here (open-block-taken p.is) a.depth (blocking b)
     ∙ no_room (subst R p.on many) (ahead names text s.end) (suc a.depth) (cmd [] b)
 
 pub block_refused : {names : List (List ℕ)} {text : List ℕ} {a y x : Progress} {s : Seen} {r : Refusal} → Passed mark.OpenBlock names text a y s → Entered y s x → ((cs : List Command) (b : Block) → Wanting cs (ahead names text x.position.at) → from names text x (cmd cs b) ≡ refused r.cause r.place) → (b : Block) → Inner b → from names text a (blocking b) ≡ refused r.cause r.place
@@ -225,7 +220,7 @@ pub block_read : {names : List (List ℕ)} {text : List ℕ} {a y x z w : Progre
 block_read {names} {text} {a} {y} {x} {z} {w} {old} {new} {s} {e} p inside took h is on =
     let R : Progress → Type 0 = λ y. Entered y s x in
     let n : Entered (read_on a s) s x = subst R p.on inside in
-    let lt : a.position.at < s.end = further lexeme.OpenBlock p.here (passed-open-block p) tt in
+    let lt : a.position.at < s.end = further lexeme.OpenBlock p.here (open-block-taken p.is) tt in
     let at_x : x.position.at ≡ s.end = ap (λ (x : Progress). x.position.at) n.on in
     let count-x : x.count ≡ a.count = ap (λ (x : Progress). x.count) n.on in
     let gz : Further z w e = gone z e on in

@@ -28,9 +28,9 @@ use Rattle.reader.specs.Ahead.{ahead, follow, HereIs, refused_at}
 use Rattle.reader.specs.Progressing.{read_on, told, told_leaf, Passed, Missed, from}
 use Rattle.reader.specs.Summing.{TookSum, behind_sum}
 use Rattle.reader.specs.Judging.{behind_literal, behind_conjunct, behind_condition, linked_on, closing, TookLiteral, TookConjunct, TookCondition, TookComparison, TookBracket, LiteralAnswer, BracketAnswer, ComparisonAnswer}
-use Rattle.reader.proofs.Nexts.{further, next, taking, and-taken, or-taken, not_taken, truth-taken, literal-bracket-taken, comparison-taken}
+use Rattle.reader.proofs.Nexts.{further, next, taking, and-taken, or-taken, not_taken, truth-taken, literal-bracket-taken, comparison-taken, close-taken, open-taken}
 use Rattle.reader.proofs.Entering.{Entered, Barred}
-use Rattle.reader.proofs.Bracketing.{passed-open, passed-close, room-left, no_room, between}
+use Rattle.reader.proofs.Bracketing.{missing, room-left, no_room, between}
 use Rattle.reader.proofs.Writing.{sum-long, condition-long, before, leaf-told, one_told, two-told}
 
 -- a literal stands where it was just read
@@ -232,32 +232,22 @@ pub opening_on : {names : List (List ℕ)} {text : List ℕ} {a y x : Progress} 
 opening_on {names} {text} {a} {y} {x} {s} p inside u =
     let R : Progress → Type 0 = λ y. Entered y s x in
     let e : Entered (read_on a s) s x = subst R p.on inside in
-    taking lexeme.Open p.here (passed-open p) a.depth (opening u)
+    taking lexeme.Open p.here (open-taken p.is) a.depth (opening u)
     ∙ room-left e (ahead names text s.end) (lit [] [] [] u)
     ∙ sym (ap (λ (x : Progress). from names text x (lit [] [] [] u)) e.on)
 
 pub opening-missed : {names : List (List ℕ)} {text : List ℕ} {a : Progress} {r : Refusal} → Missed mark.Open names text a r → (u : Purpose) → from names text a (opening u) ≡ refused r.cause r.place
-opening-missed {names} {text} {a} {r} m u =
-    let s = m.seen in
-    let rest = follow s.lexeme (ahead names text s.end) in
-    taking s.lexeme m.here refl a.depth (opening u)
-    ∙ ap (λ q. run rest (depth_after s.lexeme a.depth) q) (m.not _ _)
-    ∙ run-refused rest _ _ _ ∙ sym (ap (λ (r : Refusal). refused r.cause r.place) m.refusal)
+opening-missed {a = a} m u = taking m.seen.lexeme m.here refl a.depth (opening u) ∙ missing m _ _
 
 pub opening-crowded : {names : List (List ℕ)} {text : List ℕ} {a y : Progress} {s : Seen} {r : Refusal} → Passed mark.Open names text a y s → Barred y s r → (u : Purpose) → from names text a (opening u) ≡ refused r.cause r.place
 opening-crowded {names} {text} {a} {y} {s} {r} p many u =
     let R : Progress → Type 0 = λ y. Barred y s r in
-    taking lexeme.Open p.here (passed-open p) a.depth (opening u)
+    taking lexeme.Open p.here (open-taken p.is) a.depth (opening u)
     ∙ no_room (subst R p.on many) (ahead names text s.end) (suc a.depth) (lit [] [] [] u)
 
 -- and its partner ends it
 pub closing-missed : {names : List (List ℕ)} {text : List ℕ} {a : Progress} {r : Refusal} → Missed mark.Close names text a r → (c : Condition) (u : Purpose) → behind_condition c u (ahead names text a.position.at) a.depth ≡ refused r.cause r.place
-closing-missed {names} {text} {a} {r} m c u =
-    let s = m.seen in
-    let rest = follow s.lexeme (ahead names text s.end) in
-    ap (λ ts. behind_condition c u ts a.depth) m.here.tokens
-    ∙ ap (λ q. run rest (depth_after s.lexeme a.depth) q) (m.not _ _)
-    ∙ run-refused rest _ _ _ ∙ sym (ap (λ (r : Refusal). refused r.cause r.place) m.refusal)
+closing-missed {a = a} m c u = ap (λ ts. behind_condition c u ts a.depth) m.here.tokens ∙ missing m _ _
 
 pub bracket-read : {names : List (List ℕ)} {text : List ℕ} {a y x z w : Progress} {old new : List Row} {s t : Seen} → Passed mark.Open names text a y s → Entered y s x → TookCondition names text x old z new → Passed mark.Close names text z w t → TookBracket names text a old (record { position = w.position; count = w.count; depth = w.depth - 1 }) new
 bracket-read {names} {text} {a} {y} {x} {z} {w} {old} {new} {s} {t} p inside took q =
@@ -270,7 +260,7 @@ bracket-read {names} {text} {a} {y} {x} {z} {w} {old} {new} {s} {t} p inside too
       tree = took.tree;
       moves = λ u.
           opening_on p inside u ∙ took.moves [] u
-          ∙ ap (λ ts. behind_condition took.tree u ts z.depth) (next lexeme.Close q.here (passed-close q))
+          ∙ ap (λ ts. behind_condition took.tree u ts z.depth) (next lexeme.Close q.here (close-taken q.is))
           ∙ sym (ap (λ (w : Progress). run (ahead names text w.position.at) (pred z.depth) (shut took.tree u)) q.on)
           ∙ sym (ap (λ n. run (ahead names text w.position.at) n (shut took.tree u)) lower);
       wrote = between a _ (ap (λ (x : Progress). x.count) e.on) (ap (λ (x : Progress). x.depth) e.on) (rw e.on p.here.forward) took.wrote (ap (λ (w : Progress). w.count) q.on) lower up end;

@@ -89,6 +89,21 @@ semicolon-taken {l} e = mark-back l e
 
 pub becomes-taken : {l : Lexeme} → mark_of l ≡ Some mark.Becomes → l ≡ lexeme.Becomes
 becomes-taken {l} e = mark-back l e
+<<<<<<< HEAD
+
+-- what was taken at a place, or refused there
+
+pub seen-taken : {A : Type 0} (s : Seen) (x : Result A ReaderCause) {y z : A} → Ok y ≡ seen_as s x → y ≡ z → x ≡ Ok z
+seen-taken s (Ok v) {y} {z} e is = let same : v ≡ z = cc in ap Ok same
+seen-taken s (Err c) e is = absurd (let z : ◌≡◌ {A = ℕ} 0 1 = cc in omega arith)
+
+pub seen-refused : {A : Type 0} (s : Seen) (x : Result A ReaderCause) {r : Refusal} → Err r ≡ seen_as s x → (x ≡ Err r.cause) × (r.place ≡ s.place)
+seen-refused s (Ok z) e = absurd (let z : ◌≡◌ {A = ℕ} 0 1 = cc in omega arith)
+seen-refused s (Err c) {r} e =
+    let same : r ≡ record { cause = c; place = s.place } = cc in
+    (sym (ap (λ (r : Refusal). Err r.cause) same), ap (λ (r : Refusal). r.place) same)
+=======
+>>>>>>> e90c41ef4887992f3ccc752b28d6dcfc658f1985
 
 -- what was taken at a place, or refused there
 
@@ -102,31 +117,18 @@ seen-refused s (Err c) {r} e =
     let same : r ≡ record { cause = c; place = s.place } = cc in
     (sym (ap (λ (r : Refusal). Err r.cause) same), ap (λ (r : Refusal). r.place) same)
 
--- all lexemes but the end have a byte
+-- all lexemes but the end have a byte; where a command is wanted, the end is told from all others
+
+abbrev HasByteAs : Result CommandStart ReaderCause → Type 0
+HasByteAs (Ok (command.Set x)) = Unit {0}
+HasByteAs (Ok command.If) = Unit {0}
+HasByteAs (Ok command.While) = Unit {0}
+HasByteAs (Ok command.CloseBlock) = Unit {0}
+HasByteAs (Ok command.End) = ⊥
+HasByteAs (Err c) = Unit {0}
 
 abbrev pub HasByte : Lexeme → Type 0
-HasByte (lexeme.Number v) = Unit {0}
-HasByte lexeme.TooLarge = Unit {0}
-HasByte (lexeme.Name x) = Unit {0}
-HasByte lexeme.Unlisted = Unit {0}
-HasByte (lexeme.Truth b) = Unit {0}
-HasByte lexeme.If = Unit {0}
-HasByte lexeme.Else = Unit {0}
-HasByte lexeme.While = Unit {0}
-HasByte (lexeme.Additive o) = Unit {0}
-HasByte (lexeme.Multiplicative o) = Unit {0}
-HasByte (lexeme.Compare c) = Unit {0}
-HasByte lexeme.Not = Unit {0}
-HasByte lexeme.And = Unit {0}
-HasByte lexeme.Or = Unit {0}
-HasByte lexeme.Open = Unit {0}
-HasByte lexeme.Close = Unit {0}
-HasByte lexeme.OpenBlock = Unit {0}
-HasByte lexeme.CloseBlock = Unit {0}
-HasByte lexeme.Semicolon = Unit {0}
-HasByte lexeme.Becomes = Unit {0}
-HasByte lexeme.End = ⊥
-HasByte lexeme.Stray = Unit {0}
+HasByte l = HasByteAs (command_of l)
 
 pub further : {names : List (List ℕ)} {text : List ℕ} {at : ℕ} {s : Seen} (l : Lexeme) → HereIs names text at s → s.lexeme ≡ l → HasByte l → at < s.end
 further l h e b = let P : Lexeme → Type 0 = HasByte in h.moved (λ end. subst P (sym e ∙ end) b)

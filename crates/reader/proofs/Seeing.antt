@@ -1,7 +1,8 @@
 -- What is seen at a place: its lexeme is the next one, and the lexemes behind it are those from its end on.
-use Rattle.std.proofs.Common.{◌≡◌, ℕ, ◌<◌, leb, List, ◌∷◌, length, Some, None, codes, Option, sym, refl, ap, ◌∙◌, subst, arith}
+use Rattle.std.proofs.Common.{◌≡◌, ℕ, ◌<◌, leb, List, ◌∷◌, length, Some, None, Ok, Err, codes, Option, Result, sym, refl, ap, ◌∙◌, subst, arith}
 use Rattle.std.specs.Str.{bytes_eq}
 use Rattle.std.proofs.lemmas.Bool.{cond_both}
+use Rattle.faults.specs.declared.causes.ReaderCause.{ReaderCause}
 use Rattle.scanner.specs.Tokens.{tokens_at, token_at, after, spelled, Placed}
 use Rattle.scanner.specs.declared.token.Symbol.{Symbol}
 use Rattle.scanner.specs.declared.token.Symbol.TheVariants as symbol
@@ -12,36 +13,25 @@ use Rattle.names.specs.Lines.{position}
 use Rattle.names.specs.Names.{Finds}
 use Rattle.names.proofs.NameLaws.{finds}
 use Rattle.grammar.specs.declared.lexeme.Lexeme.{Lexeme}
-use Rattle.grammar.specs.declared.lexeme.Lexeme.TheVariants as lexeme
+use Rattle.grammar.specs.declared.choice.CommandStart.{CommandStart}
+use Rattle.grammar.specs.declared.choice.CommandStart.TheVariants as command
+use Rattle.grammar.specs.Choices.{command_of}
 use Rattle.grammar.specs.Lexemes.{Tok, tok, lexed, listed, numeral, number_lexeme, word_lexeme, sign_lexeme, kind_lexeme, lexeme_of}
 use Rattle.grammar.proofs.Lexing.{next-lexeme}
 use Rattle.reader.specs.Ahead.{ahead, follow, HereIs}
 
--- a name is one of the list's
+-- a name is one of the list's; where a command is wanted, a name is told from all other lexemes
+
+abbrev ListedAs : List (List ℕ) → Result CommandStart ReaderCause → Type 0
+ListedAs names (Ok (command.Set x)) = x < length names
+ListedAs names (Ok command.If) = Unit {0}
+ListedAs names (Ok command.While) = Unit {0}
+ListedAs names (Ok command.CloseBlock) = Unit {0}
+ListedAs names (Ok command.End) = Unit {0}
+ListedAs names (Err c) = Unit {0}
 
 abbrev Listed : List (List ℕ) → Lexeme → Type 0
-Listed names (lexeme.Number v) = Unit {0}
-Listed names lexeme.TooLarge = Unit {0}
-Listed names (lexeme.Name x) = x < length names
-Listed names lexeme.Unlisted = Unit {0}
-Listed names (lexeme.Truth b) = Unit {0}
-Listed names lexeme.If = Unit {0}
-Listed names lexeme.Else = Unit {0}
-Listed names lexeme.While = Unit {0}
-Listed names (lexeme.Additive o) = Unit {0}
-Listed names (lexeme.Multiplicative o) = Unit {0}
-Listed names (lexeme.Compare c) = Unit {0}
-Listed names lexeme.Not = Unit {0}
-Listed names lexeme.And = Unit {0}
-Listed names lexeme.Or = Unit {0}
-Listed names lexeme.Open = Unit {0}
-Listed names lexeme.Close = Unit {0}
-Listed names lexeme.OpenBlock = Unit {0}
-Listed names lexeme.CloseBlock = Unit {0}
-Listed names lexeme.Semicolon = Unit {0}
-Listed names lexeme.Becomes = Unit {0}
-Listed names lexeme.End = Unit {0}
-Listed names lexeme.Stray = Unit {0}
+Listed names l = ListedAs names (command_of l)
 
 -- what a word, a number and a sign are has lexemes behind it
 abbrev Inner : List (List ℕ) → Lexeme → Type 0

@@ -17,14 +17,14 @@ use Rattle.grammar.specs.declared.choice.Join.TheVariants as join
 use Rattle.grammar.specs.declared.choice.Mark.TheVariants as mark
 use Rattle.grammar.specs.Choices.{operand_of, join_of, depth_after}
 use Rattle.grammar.specs.Lexemes.{Tok, tok}
-use Rattle.grammar.specs.Machine.{Left, none, left, onto, Use, within, want, have, refused, wanted, continued, ended, refuse, run}
-use Rattle.grammar.proofs.Lexing.{run-refused}
+use Rattle.grammar.specs.Machine.{Left, none, left, onto, Use, within, want, have, refused, wanted, continued, ended, run}
 use Rattle.reader.specs.declared.seen.Seen.{Seen}
 use Rattle.reader.specs.declared.seen.Refusal.{Refusal}
 use Rattle.reader.specs.declared.progress.Progress.{Progress}
 use Rattle.reader.specs.Ahead.{ahead, follow, HereIs, seen_as}
 use Rattle.reader.specs.Progressing.{told, told_leaf, read_on, Passed, Missed, Wrote, from}
 use Rattle.reader.specs.Summing.{behind_sum, NoFactor, NoProd, SumSoFar, TookSum, TookProd, TookFactor}
+use Rattle.reader.proofs.Bracketing.{missing}
 use Rattle.reader.proofs.Entering.{Entered, Barred}
 use Rattle.reader.proofs.Nexts.{number-taken, name-taken, bracket-taken, additive-taken, multiplicative-taken, close-taken, further, taking, refusing, seen-refused}
 use Rattle.reader.proofs.Writing.{Further, gone, sum-long, before, within-told, leaf-told, two-told}
@@ -93,14 +93,9 @@ module _ {names : List (List ℕ)} {text : List ℕ} where
       ap (λ ts. behind_sum k e ts d) h.tokens ∙ ap (λ x. run (follow x (ahead names text s.end)) (depth_after x d) (ended k e (tok s.place x))) is
 
   pub bracket-unclosed : {a y z : Progress} {old new : List Row} {s : Seen} {r : Refusal} → HereIs names text a.position.at s → operand_of s.lexeme ≡ Ok operand.Bracket → Entered a s y → TookSum names text y old z new → Missed mark.Close names text z r → (t m : Left) (k : Use) → from names text a (want t m k) ≡ refused r.cause r.place
-  bracket-unclosed {a} {y} {z} {old} {new} {s} {r} h e i took miss t m k =
-      let u : Seen = miss.seen in
-      let rest : List Tok = follow u.lexeme (ahead names text u.end) in
-      bracket-entered h e i t m k ∙ took.moves (within t m k)
-      ∙ behind_sum_lem u.lexeme miss.here refl (within t m k) took.tree z.depth
-      ∙ ap (λ q. run rest (depth_after u.lexeme z.depth) q) (miss.not (have t (onto m took.tree) k) (refuse (tok u.place u.lexeme)))
-      ∙ run-refused rest _ _ _
-      ∙ ap (λ (f : Refusal). refused f.cause f.place) (sym miss.refusal)
+  bracket-unclosed {z = z} h e i took m t f k =
+      bracket-entered h e i t f k ∙ took.moves (within t f k)
+      ∙ behind_sum_lem m.seen.lexeme m.here refl (within t f k) took.tree z.depth ∙ missing m _ _
 
   pub bracket-read : {a y z w : Progress} {old new : List Row} {s u : Seen} (f : Progress) → HereIs names text a.position.at s → operand_of s.lexeme ≡ Ok operand.Bracket → Entered a s y → TookSum names text y old z new → Passed mark.Close names text z w u → f.position ≡ w.position → f.count ≡ w.count → f.depth ≡ w.depth - 1 → TookFactor names text a old f new
   bracket-read {a} {y} {z} {w} {old} {new} {s} {u} f h e i took pass fp fc fd =
