@@ -50,42 +50,45 @@ module _ (cs : List Command) (bs : List Body) where
   sum-read (name q p) a b vs f = ap (λ (n : ℕ). reading n (of_sum (name 0 p) ∷ vs) cs bs) (sym f)
   sum-read (work q o l r) a b vs f =
       let g : a + sum_length l + sum_length r + 1 ≡ b = omega arith in
-      reads_then (sum_code l) _ (reading a vs cs bs)
-      ∙ ap (reads (sum_code r ++ (operator_instruction o, q) ∷ [])) (sum-read l a (a + sum_length l) vs refl)
-      ∙ reads_then (sum_code r) _ (reading (a + sum_length l) (sum_left l ∷ vs) cs bs)
-      ∙ ap (read_one (operator_instruction o)) (sum-read r (a + sum_length l) (a + sum_length l + sum_length r) (sum_left l ∷ vs) refl)
-      ∙ operator-read o (a + sum_length l + sum_length r) (sum_left l) (sum_left r) vs cs bs
-      ∙ ap (λ (k : ℕ). reading k (of_sum (work 0 o (value_sum (sum_left l)) (value_sum (sum_left r))) ∷ vs) cs bs) g
-      ∙ ap (λ (t : Sum). reading b (of_sum (work 0 o t (value_sum (sum_left r))) ∷ vs) cs bs) (sum_left_lem l)
-      ∙ ap (λ (t : Sum). reading b (of_sum (work 0 o (bare_sum l) t) ∷ vs) cs bs) (sum_left_lem r)
+      rw (
+        reads_then (sum_code l) (sum_code r ++ (operator_instruction o, q) ∷ []) (reading a vs cs bs),
+        sum-read l a (a + sum_length l) vs refl,
+        reads_then (sum_code r) ((operator_instruction o, q) ∷ []) (reading (a + sum_length l) (sum_left l ∷ vs) cs bs),
+        sum-read r (a + sum_length l) (a + sum_length l + sum_length r) (sum_left l ∷ vs) refl,
+        operator-read o (a + sum_length l + sum_length r) (sum_left l) (sum_left r) vs cs bs,
+        g,
+        sum_left_lem l,
+        sum_left_lem r,
+      )
 
   condition-read : (c : Condition) (a b : ℕ) (vs : List Value) → b ≡ a + condition_length c → reads (condition_code c) (reading a vs cs bs) ≡ reading b (condition_left c ∷ vs) cs bs
   condition-read (truth q v) a b vs f = ap (λ (n : ℕ). reading n (plain (bit v) ∷ vs) cs bs) (sym f)
   condition-read (compare q k l r) a b vs f =
       let g : a + sum_length l + sum_length r + 1 ≡ b = omega arith in
-      reads_then (sum_code l) _ (reading a vs cs bs)
-      ∙ ap (reads (sum_code r ++ (Cmp k, q) ∷ [])) (sum-read l a (a + sum_length l) vs refl)
-      ∙ reads_then (sum_code r) _ (reading (a + sum_length l) (sum_left l ∷ vs) cs bs)
-      ∙ ap (read_one (Cmp k)) (sum-read r (a + sum_length l) (a + sum_length l + sum_length r) (sum_left l ∷ vs) refl)
-      ∙ ap (λ (n : ℕ). reading n (of_condition (compare 0 k (value_sum (sum_left l)) (value_sum (sum_left r))) ∷ vs) cs bs) g
-      ∙ ap (λ (t : Sum). reading b (of_condition (compare 0 k t (value_sum (sum_left r))) ∷ vs) cs bs) (sum_left_lem l)
-      ∙ ap (λ (t : Sum). reading b (of_condition (compare 0 k (bare_sum l) t) ∷ vs) cs bs) (sum_left_lem r)
+      rw (
+        reads_then (sum_code l) (sum_code r ++ (Cmp k, q) ∷ []) (reading a vs cs bs),
+        sum-read l a (a + sum_length l) vs refl,
+        reads_then (sum_code r) ((Cmp k, q) ∷ []) (reading (a + sum_length l) (sum_left l ∷ vs) cs bs),
+        sum-read r (a + sum_length l) (a + sum_length l + sum_length r) (sum_left l ∷ vs) refl,
+        g,
+        sum_left_lem l,
+        sum_left_lem r,
+      )
   condition-read (negate q c) a b vs f =
       let g : a + condition_length c + 1 ≡ b = omega arith in
-      reads_then (condition_code c) _ (reading a vs cs bs)
-      ∙ ap (read_one Inv) (condition-read c a (a + condition_length c) vs refl)
-      ∙ ap (λ (n : ℕ). reading n (of_condition (negate 0 (value_condition (condition_left c))) ∷ vs) cs bs) g
-      ∙ ap (λ (t : Condition). reading b (of_condition (negate 0 t) ∷ vs) cs bs) (condition-left c)
+      rw (reads_then (condition_code c) ((Inv, q) ∷ []) (reading a vs cs bs), condition-read c a (a + condition_length c) vs refl, g, condition-left c)
   condition-read (connect q j c d) a b vs f =
       let g : a + condition_length c + condition_length d + 1 ≡ b = omega arith in
-      reads_then (condition_code c) _ (reading a vs cs bs)
-      ∙ ap (reads (condition_code d ++ (connective_instruction j, q) ∷ [])) (condition-read c a (a + condition_length c) vs refl)
-      ∙ reads_then (condition_code d) _ (reading (a + condition_length c) (condition_left c ∷ vs) cs bs)
-      ∙ ap (read_one (connective_instruction j)) (condition-read d (a + condition_length c) (a + condition_length c + condition_length d) (condition_left c ∷ vs) refl)
-      ∙ connective-read j (a + condition_length c + condition_length d) (condition_left c) (condition_left d) vs cs bs
-      ∙ ap (λ (k : ℕ). reading k (of_condition (connect 0 j (value_condition (condition_left c)) (value_condition (condition_left d))) ∷ vs) cs bs) g
-      ∙ ap (λ (t : Condition). reading b (of_condition (connect 0 j t (value_condition (condition_left d))) ∷ vs) cs bs) (condition-left c)
-      ∙ ap (λ (t : Condition). reading b (of_condition (connect 0 j (bare_condition c) t) ∷ vs) cs bs) (condition-left d)
+      rw (
+        reads_then (condition_code c) (condition_code d ++ (connective_instruction j, q) ∷ []) (reading a vs cs bs),
+        condition-read c a (a + condition_length c) vs refl,
+        reads_then (condition_code d) ((connective_instruction j, q) ∷ []) (reading (a + condition_length c) (condition_left c ∷ vs) cs bs),
+        condition-read d (a + condition_length c) (a + condition_length c + condition_length d) (condition_left c ∷ vs) refl,
+        connective-read j (a + condition_length c + condition_length d) (condition_left c) (condition_left d) vs cs bs,
+        g,
+        condition-left c,
+        condition-left d,
+      )
 
 -- the commands of a sheet, newest first, after others
 
@@ -152,16 +155,14 @@ mutual
       let g : a + sum_length e + 1 + 1 ≡ b = omega arith in
       reads_then (sum_code e) _ (reading a vs cs bs)
       ∙ ap (reads ((Save p, q) ∷ (Pop, q) ∷ [])) (sum-read cs bs e a (a + sum_length e) vs refl)
-      ∙ ap (λ (n : ℕ). settled n vs (set 0 p (value_sum (sum_left e)) ∷ cs) bs) g
-      ∙ ap (λ (t : Sum). settled b vs (set 0 p t ∷ cs) bs) (sum_left_lem e)
+      ∙ rw (g, sum_left_lem e)
   command-read (when q c t) a b vs cs bs f =
       let g : a + condition_length c + 1 + sheet_length t ≡ b = omega arith in
       let B = body (bare_condition c) None (a + condition_length c + 1 + sheet_length t) cs in
       test_read c q a (a + condition_length c) _ vs cs bs (sheet_code (a + condition_length c + 1) t) refl
       ∙ sheet-read t (a + condition_length c + 1) (a + condition_length c + 1 + sheet_length t) vs [] (B ∷ bs) refl (omega arith)
       ∙ settled-closed (a + condition_length c + 1 + sheet_length t) vs (commands_of t []) B bs refl
-      ∙ ap (λ (n : ℕ). settled n vs (when 0 (bare_condition c) (gathered (commands_of t [])) ∷ cs) bs) g
-      ∙ ap (λ (u : Sheet). settled b vs (when 0 (bare_condition c) u ∷ cs) bs) (gathered-sheet t)
+      ∙ rw (g, gathered-sheet t)
   command-read (choose q c t u) a b vs cs bs f =
       let g : a + condition_length c + 1 + sheet_length t + 1 + sheet_length u ≡ b = omega arith in
       let B = body (bare_condition c) None (a + condition_length c + 1 + sheet_length t + 1) cs in
@@ -172,9 +173,7 @@ mutual
       ∙ ap (reads (sheet_code (a + condition_length c + 1 + sheet_length t + 1) u)) (forward-read (a + condition_length c + 1 + sheet_length t + 1 + sheet_length u) (a + condition_length c + 1 + sheet_length t) vs (commands_of t []) B bs (omega arith))
       ∙ sheet-read u (a + condition_length c + 1 + sheet_length t + 1) (a + condition_length c + 1 + sheet_length t + 1 + sheet_length u) vs [] (D ∷ bs) refl (omega arith)
       ∙ settled-closed (a + condition_length c + 1 + sheet_length t + 1 + sheet_length u) vs (commands_of u []) D bs refl
-      ∙ ap (λ (k : ℕ). settled k vs (choose 0 (bare_condition c) (gathered (commands_of t [])) (gathered (commands_of u [])) ∷ cs) bs) g
-      ∙ ap (λ (w : Sheet). settled b vs (choose 0 (bare_condition c) w (gathered (commands_of u [])) ∷ cs) bs) (gathered-sheet t)
-      ∙ ap (λ (w : Sheet). settled b vs (choose 0 (bare_condition c) (bare_sheet t) w ∷ cs) bs) (gathered-sheet u)
+      ∙ rw (g, gathered-sheet t, gathered-sheet u)
   command-read (while q c t) a b vs cs bs f =
       let g : a + condition_length c + 1 + sheet_length t + 1 ≡ b = omega arith in
       let B = body (bare_condition c) None (a + condition_length c + 1 + sheet_length t + 1) cs in
@@ -182,8 +181,7 @@ mutual
       ∙ reads_then (sheet_code (a + condition_length c + 1) t) _ (reading (a + condition_length c + 1) vs [] (B ∷ bs))
       ∙ ap (read_one (Jump a)) (sheet-read t (a + condition_length c + 1) (a + condition_length c + 1 + sheet_length t) vs [] (B ∷ bs) refl (omega arith) ∙ settled-none (a + condition_length c + 1 + sheet_length t) (a + condition_length c + 1 + sheet_length t + 1) vs (commands_of t []) (B ∷ bs) (omega arith) (omega arith))
       ∙ back_read a (a + condition_length c + 1 + sheet_length t) vs (commands_of t []) B bs (omega arith)
-      ∙ ap (λ (k : ℕ). settled k vs (while 0 (bare_condition c) (gathered (commands_of t [])) ∷ cs) bs) g
-      ∙ ap (λ (w : Sheet). settled b vs (while 0 (bare_condition c) w ∷ cs) bs) (gathered-sheet t)
+      ∙ rw (g, gathered-sheet t)
 
   sheet-read : (t : Sheet) (a b : ℕ) (vs : List Value) (cs : List Command) (bs : List Body) → b ≡ a + sheet_length t → Until b bs → reads (sheet_code a t) (reading a vs cs bs) ≡ settled b vs (commands_of t cs) bs
   sheet-read (only c) a b vs cs bs f h = command-read c a b vs cs bs f

@@ -33,6 +33,27 @@ fn same_code(rt: &impl Abort, rows: &[Row], expected: &[(Instruction, u16)]) -> 
     Ok(())
 }
 
+const LOOP: [(Instruction, u16); 18] = [
+    (Instruction::Push(1), 7),
+    (Instruction::Save(0), 0),
+    (Instruction::Pop, 0),
+    (Instruction::Load(1), 17),
+    (Instruction::Push(1), 21),
+    (Instruction::Cmp(Comparison::Greater), 19),
+    (Instruction::JumpF(18), 10),
+    (Instruction::Load(0), 33),
+    (Instruction::Load(1), 40),
+    (Instruction::Mul, 38),
+    (Instruction::Save(0), 26),
+    (Instruction::Pop, 26),
+    (Instruction::Load(1), 47),
+    (Instruction::Push(1), 51),
+    (Instruction::Sub, 49),
+    (Instruction::Save(1), 43),
+    (Instruction::Pop, 43),
+    (Instruction::Jump(3), 10),
+];
+
 // fact = 1; while (x > 1) { fact = fact * x; x = x - 1; }, where fact is point 0 and x is point 1
 #[test]
 fn a_loop(rt: HostRuntime) -> Result<(), Fail> {
@@ -54,31 +75,33 @@ fn a_loop(rt: HostRuntime) -> Result<(), Fail> {
         row(Kind::While, 0, 13, 10),
         row(Kind::Joint, 0, 16, 10),
     ];
-    same_code(
-        &rt,
-        &rows,
-        &[
-            (Instruction::Push(1), 7),
-            (Instruction::Save(0), 0),
-            (Instruction::Pop, 0),
-            (Instruction::Load(1), 17),
-            (Instruction::Push(1), 21),
-            (Instruction::Cmp(Comparison::Greater), 19),
-            (Instruction::JumpF(18), 10),
-            (Instruction::Load(0), 33),
-            (Instruction::Load(1), 40),
-            (Instruction::Mul, 38),
-            (Instruction::Save(0), 26),
-            (Instruction::Pop, 26),
-            (Instruction::Load(1), 47),
-            (Instruction::Push(1), 51),
-            (Instruction::Sub, 49),
-            (Instruction::Save(1), 43),
-            (Instruction::Pop, 43),
-            (Instruction::Jump(3), 10),
-        ],
-    )
+    same_code(&rt, &rows, &LOOP)
 }
+
+const BRANCHES: [(Instruction, u16); 22] = [
+    (Instruction::Load(0), 0),
+    (Instruction::Push(2), 1),
+    (Instruction::Push(1), 2),
+    (Instruction::Div, 3),
+    (Instruction::Add, 4),
+    (Instruction::Load(1), 5),
+    (Instruction::Cmp(Comparison::Equal), 6),
+    (Instruction::Inv, 7),
+    (Instruction::Push(1), 8),
+    (Instruction::Push(0), 9),
+    (Instruction::And, 10),
+    (Instruction::Or, 11),
+    (Instruction::JumpF(17), 18),
+    (Instruction::Push(3), 12),
+    (Instruction::Save(0), 13),
+    (Instruction::Pop, 13),
+    (Instruction::Jump(22), 18),
+    (Instruction::Push(1), 14),
+    (Instruction::JumpF(22), 17),
+    (Instruction::Push(4), 15),
+    (Instruction::Save(1), 16),
+    (Instruction::Pop, 16),
+];
 
 // if (!(p0 + 2 / 1 == p1) || true && false) { p0 = 3; } else { if (true) { p1 = 4; } }, each place its row's index
 #[test]
@@ -104,34 +127,7 @@ fn branches(rt: HostRuntime) -> Result<(), Fail> {
         row(Kind::If, 0, 4, 17),
         row(Kind::IfElse, 0, 19, 18),
     ];
-    same_code(
-        &rt,
-        &rows,
-        &[
-            (Instruction::Load(0), 0),
-            (Instruction::Push(2), 1),
-            (Instruction::Push(1), 2),
-            (Instruction::Div, 3),
-            (Instruction::Add, 4),
-            (Instruction::Load(1), 5),
-            (Instruction::Cmp(Comparison::Equal), 6),
-            (Instruction::Inv, 7),
-            (Instruction::Push(1), 8),
-            (Instruction::Push(0), 9),
-            (Instruction::And, 10),
-            (Instruction::Or, 11),
-            (Instruction::JumpF(17), 18),
-            (Instruction::Push(3), 12),
-            (Instruction::Save(0), 13),
-            (Instruction::Pop, 13),
-            (Instruction::Jump(22), 18),
-            (Instruction::Push(1), 14),
-            (Instruction::JumpF(22), 17),
-            (Instruction::Push(4), 15),
-            (Instruction::Save(1), 16),
-            (Instruction::Pop, 16),
-        ],
-    )
+    same_code(&rt, &rows, &BRANCHES)
 }
 
 // What is answered, as number and figure (0 and the length where it compiles). A refusal leaves both lists, of `Inv` at
