@@ -10,17 +10,10 @@ use Rattle.grammar.proofs.Lexing.{run-refused}
 use Rattle.reader.specs.declared.seen.Seen.{Seen}
 use Rattle.reader.specs.declared.seen.Refusal.{Refusal}
 use Rattle.reader.specs.declared.progress.Progress.{Progress}
-<<<<<<< HEAD
-use Rattle.reader.specs.Progressing.{Passed, Wrote}
-use Rattle.reader.proofs.Entering.{Entered, Barred}
-use Rattle.reader.proofs.Writing.{within-told}
-use Rattle.reader.proofs.Nexts.{open-taken, close-taken, open-block-taken, semicolon-taken, becomes-taken}
-=======
 use Rattle.reader.specs.Ahead.{ahead, follow}
 use Rattle.reader.specs.Progressing.{if_mark, Missed, Wrote}
 use Rattle.reader.proofs.Entering.{Entered, Barred}
 use Rattle.reader.proofs.Writing.{within-told}
->>>>>>> e90c41ef4887992f3ccc752b28d6dcfc658f1985
 
 -- the machine refuses what is not the one that was expected
 

@@ -23,15 +23,9 @@ use Rattle.reader.specs.Progressing.{read_on, told, Passed, Missed, from}
 use Rattle.reader.specs.Summing.{TookSum, behind_sum}
 use Rattle.reader.specs.Judging.{TookBracket}
 use Rattle.reader.specs.Ordering.{pushed, JoinedInPlace, place_ahead, EndsSheet, EndAhead, Inner, Wanting, TookCommand, TookSheet, TookBlock, Begins}
-<<<<<<< HEAD
-use Rattle.reader.proofs.Nexts.{sheet-ends, further, next, taking, refusing, seen-refused, set-taken, if-taken, while-taken, close-block-taken, end-taken, else-taken}
-use Rattle.reader.proofs.Entering.{Entered, Barred}
-use Rattle.reader.proofs.Bracketing.{passed-open-block, passed-semicolon, passed-becomes, room-left, no_room, between}
-=======
 use Rattle.reader.proofs.Nexts.{sheet-ends, further, next, taking, refusing, seen-refused, set-taken, if-taken, while-taken, close-block-taken, end-taken, else-taken, becomes-taken, open-block-taken, semicolon-taken}
 use Rattle.reader.proofs.Entering.{Entered, Barred}
 use Rattle.reader.proofs.Bracketing.{missing, room-left, no_room, between}
->>>>>>> e90c41ef4887992f3ccc752b28d6dcfc658f1985
 use Rattle.reader.proofs.Writing.{Further, gone, sum-long, condition-long, command-long, sheet-long, before, beyond, one_told, two-told, three-told}
 
 again : (names : List (List ℕ)) (text : List ℕ) (a : Progress) {z : Progress} (s : Seen) → z ≡ read_on a s → (m : State) → run (ahead names text s.end) a.depth m ≡ from names text z m

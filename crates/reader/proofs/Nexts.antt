@@ -89,21 +89,6 @@ semicolon-taken {l} e = mark-back l e
 
 pub becomes-taken : {l : Lexeme} → mark_of l ≡ Some mark.Becomes → l ≡ lexeme.Becomes
 becomes-taken {l} e = mark-back l e
-<<<<<<< HEAD
-
--- what was taken at a place, or refused there
-
-pub seen-taken : {A : Type 0} (s : Seen) (x : Result A ReaderCause) {y z : A} → Ok y ≡ seen_as s x → y ≡ z → x ≡ Ok z
-seen-taken s (Ok v) {y} {z} e is = let same : v ≡ z = cc in ap Ok same
-seen-taken s (Err c) e is = absurd (let z : ◌≡◌ {A = ℕ} 0 1 = cc in omega arith)
-
-pub seen-refused : {A : Type 0} (s : Seen) (x : Result A ReaderCause) {r : Refusal} → Err r ≡ seen_as s x → (x ≡ Err r.cause) × (r.place ≡ s.place)
-seen-refused s (Ok z) e = absurd (let z : ◌≡◌ {A = ℕ} 0 1 = cc in omega arith)
-seen-refused s (Err c) {r} e =
-    let same : r ≡ record { cause = c; place = s.place } = cc in
-    (sym (ap (λ (r : Refusal). Err r.cause) same), ap (λ (r : Refusal). r.place) same)
-=======
->>>>>>> e90c41ef4887992f3ccc752b28d6dcfc658f1985
 
 -- what was taken at a place, or refused there
 
