@@ -45,7 +45,7 @@ fn fetch(bytes: &[u8], at: usize) -> i32
     requires { at + 4 ≤ length bytes.now }
     ensures { result ≡ number_at bytes.now at }
 {
-    let four = [bytes[at], bytes[at + 1], bytes[at + 2], bytes[at + 3]];
+    let four = *bytes[at..].first_chunk().unwrap();
     i32::from_le_bytes(four)
 }
 

@@ -10,7 +10,7 @@ use faults::Fault;
 
 #[derive(Clone, Copy)]
 pub struct Overlay {
-    // for each point the number written to it, if any
+    // for each point that a bank can have the number written to it, if any; an array, since there is no heap
     held: [Option<i32>; MOST_POINTS],
     ghost whole: { length held ≡ 64 },
 }

@@ -1,6 +1,5 @@
 // A bank that owns its numbers.
 ghost use Rattle.std.specs.Prelude.{◌≡◌, ◌<◌, ◌≤◌, [], take, pos, slice_index_or, slice_set};
-ghost use Rattle.banks.specs.Registers.{cleared, points_in};
 
 use crate::bank::{Bank, MOST_POINTS, Reading, Writing, no_point};
 use faults::Fault;
@@ -14,8 +13,10 @@ pub struct Registers {
 }
 
 impl Registers {
+    ghost use Rattle.banks.specs.Registers.{cleared, made};
+
     pub fn new(count: usize) -> Result<Registers, Fault>
-        ensures { points_in (λ x. take x.count x.numbers) result ≡ cleared count }
+        ensures { made result ≡ cleared count }
     {
         if count > MOST_POINTS {
             return Err(no_point(count));
@@ -43,7 +44,9 @@ impl Registers {
 }
 
 impl Bank for Registers {
-    ghost points = { λ x. take x.count x.numbers };
+    ghost use Rattle.banks.specs.Registers.{numbers_of};
+
+    ghost points = { numbers_of };
 
     ghost fixed = { λ _. [] };
 

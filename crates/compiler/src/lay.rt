@@ -10,7 +10,7 @@ use crate::operation::{instruction_of, point_of};
 use crate::shape::Shape;
 use instructions::Instruction;
 
-// Two lent lists, an instruction and its place side by side, and the next address.
+// The next address, and the two lists that callers of `compile` lend, an instruction and its place side by side.
 #[derive(Drop)]
 pub(crate) struct Code<'a> {
     pub(crate) instructions: &'a mut [Instruction],

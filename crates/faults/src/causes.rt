@@ -71,6 +71,7 @@ pub enum RunCause {
 }
 
 impl Layer {
+    // A refusal's number is what people tell each other, so it has a name of its own and is no conversion.
     pub fn number(self) -> u8
         ensures { result ≡ number_of self }
     {

@@ -28,7 +28,7 @@ pub enum Instruction {
 }
 
 impl Instruction {
-    // The number by which a station file names it.
+    // The number by which a station file names it. It is half of an instruction, so this is no conversion.
     pub fn code(self) -> u8
         ensures { result ≡ code_of self }
     {

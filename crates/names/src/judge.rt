@@ -41,6 +41,7 @@ pub(crate) fn judge(text: &[u8]) -> Result<(), BadLine>
             line: count + 1,
             complaint,
         })?;
+        // a line does not know where it begins, and that is what is told of a bad one
         start += line.len() + 1;
     }
     if start < text.len() {

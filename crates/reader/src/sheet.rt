@@ -41,7 +41,6 @@ pub fn read(list: &[u8], sheet: &[u8], rows: &mut [Row]) -> Result<usize, Fault>
 
 // How many rows the sheet has; as many of them as there are slots for are written.
 fn read_under(names: NameList, sheet: &[u8], rows: &mut [Row]) -> Result<usize, Fault>
-    requires { length (lines_of names.text.now) ≤ 64 }
     ensures { UnderAnswer (lines_of names.entry.text.now) sheet.now rows.old rows.new result }
 {
     if sheet.len() > MOST_BYTES {
@@ -52,8 +51,7 @@ fn read_under(names: NameList, sheet: &[u8], rows: &mut [Row]) -> Result<usize, 
 
 // A sheet, and then the end of the text.
 fn read_all(names: NameList, sheet: &[u8], rows: &mut [Row]) -> Result<usize, Refusal>
-    requires listed { length (lines_of names.text.now) ≤ 64 }
-    requires short { length sheet.now ≤ 8192 }
+    requires { length sheet.now ≤ 8192 }
     ensures { AllAnswer (run (lexemes (lines_of names.entry.text.now) sheet.now) 0 start) rows.old rows.new result }
 {
     let mut reader = Reader {

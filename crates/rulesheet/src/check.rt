@@ -111,6 +111,7 @@ fn print_found(rt: &HostRuntime, names: &NameList, found: Measures) -> Result<()
     } = found;
     println!(rt; "code length {length}, depth {depth}")?;
     print!(rt; "points used")?;
+    // by number, since the number is what the set of points is asked for
     for point in 0..names.count() {
         if point < 64 && (used >> point) & 1 == 1 {
             let name = name_of(names, point);

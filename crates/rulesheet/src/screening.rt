@@ -3,7 +3,6 @@ use crate::failure::Failure;
 use crate::input::Sheet;
 use crate::listing::name_of;
 use excerpts::line_at;
-use faults::Fault;
 use names::NameList;
 use screen::Outcome;
 

@@ -7,7 +7,7 @@ use Rattle.std.specs.List.{AllByRecursion, list_all}
 use Rattle.scanner.specs.Words.{is_word}
 use Rattle.scanner.specs.Tokens.{is_blank}
 use Rattle.arith.specs.declared.comparison.Comparison.{Comparison}
-use Rattle.arith.specs.declared.comparison.Comparison.TheVariants.{Less, LessOrEqual, Greater, GreaterOrEqual, Equal, NotEqual}
+use Rattle.arith.specs.Comparisons.{sign_of}
 use Rattle.scanner.specs.declared.token.Symbol.{Symbol}
 use Rattle.scanner.specs.declared.token.Symbol.TheVariants.{OpenBlock, CloseBlock, Open, Close, Semicolon, Becomes, Plus, Minus, Times, Over, Not, And, Or, Compare}
 use Rattle.scanner.specs.declared.token.Kind.{Kind}
@@ -15,12 +15,7 @@ use Rattle.scanner.specs.declared.token.Kind.TheVariants.{Word, Number, Sign, En
 use Rattle.scanner.specs.declared.token.Token.{Token}
 
 abbrev pub comparison_spelling : Comparison → List ℕ
-comparison_spelling Less = codes "<"
-comparison_spelling LessOrEqual = codes "<="
-comparison_spelling Greater = codes ">"
-comparison_spelling GreaterOrEqual = codes ">="
-comparison_spelling Equal = codes "=="
-comparison_spelling NotEqual = codes "!="
+comparison_spelling = sign_of
 
 abbrev pub spelling : Symbol → List ℕ
 spelling OpenBlock = codes "{"

@@ -3,6 +3,7 @@ use Rattle.std.proofs.Common.{◌≡◌, ℕ, suc, ◌+◌, ◌-◌, ◌≤◌, 
 use Rattle.arith.specs.declared.comparison.Comparison.{Comparison}
 use Rattle.arith.specs.declared.comparison.Comparison.TheVariants.{Less, LessOrEqual, Greater, GreaterOrEqual, Equal, NotEqual}
 use Rattle.arith.specs.Comparisons.{comparison_number}
+use Rattle.arith.proofs.Numbered.{numbered-back}
 use Rattle.tables.specs.declared.kind.Kind.{Kind}
 use Rattle.tables.specs.declared.kind.Kind.TheVariants.{Truth, Compare, Not}
 use Rattle.tables.specs.declared.row.Row.{Row}
@@ -21,12 +22,7 @@ compare-sides {R} {end} {count} {q} {k} {l} {r} at = sides R end count l r _ at.
 
 -- a comparison's row names it
 pub names : (k : Comparison) → comparison_in (pos (comparison_number k)) ≡ Some k
-names Less = refl
-names LessOrEqual = refl
-names Greater = refl
-names GreaterOrEqual = refl
-names Equal = refl
-names NotEqual = refl
+names k = numbered-back k
 
 abbrev kind_of : Condition → Kind
 kind_of (truth q b) = Truth

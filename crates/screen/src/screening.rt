@@ -28,7 +28,7 @@ pub fn work_out(rows: &[Row], points: &mut [i32], allowance: u32) -> Result<Outc
     settle(run, points, &before, allowance)
 }
 
-// The one copy of the points that a call makes.
+// The one copy of the points that a call makes, in an array of the most there can be: there is no heap.
 fn copied(points: &[i32]) -> [i32; MOST_POINTS]
     requires { length points.now ≤ 64 }
     ensures { take (length points.now) result ≡ points.now }

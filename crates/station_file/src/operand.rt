@@ -43,7 +43,8 @@ pub(crate) fn decode(code: u8, operand: u32, counts: Counts) -> Option<Instructi
     instruction_of(code, operand).filter(|found| is_allowed(*found, points, instructions))
 }
 
-// Any byte is a point here, and any number of two bytes an address.
+// Any byte is a point here, and any number of two bytes an address. A file's numbers turn into instructions here alone, so
+// a match is as plain as a conversion would be, which has to take the two together.
 fn instruction_of(code: u8, operand: u32) -> Option<Instruction>
     ensures { result ≡ decoded 256 65535 code operand }
 {

@@ -4,6 +4,7 @@ use Rattle.arith.specs.declared.operator.Operator.TheVariants as operator
 use Rattle.arith.specs.declared.comparison.Comparison.{Comparison}
 use Rattle.arith.specs.declared.comparison.Comparison.TheVariants.{Less, LessOrEqual, Greater, GreaterOrEqual, Equal, NotEqual}
 use Rattle.arith.specs.Comparisons.{comparison_number, comparison_at}
+use Rattle.arith.proofs.Numbered.{numbered-back}
 use Rattle.tables.specs.declared.row.Row.{Row}
 use Rattle.tables.specs.Trees.{Sum, number, name, work, both, either, Condition, truth, compare, negate, connect, Command, set, when, choose, while, Sheet, only, joint}
 use Rattle.tables.specs.Rows.{bit, sheet_rows}
@@ -58,12 +59,7 @@ or_less None = Less
 or_less (Some c) = c
 
 comparison-back : (c : Comparison) → or_less (comparison_at (comparison_number c)) ≡ c
-comparison-back Less = refl
-comparison-back LessOrEqual = refl
-comparison-back Greater = refl
-comparison-back GreaterOrEqual = refl
-comparison-back Equal = refl
-comparison-back NotEqual = refl
+comparison-back c = ap or_less (numbered-back c)
 
 abbrev tree_sums : Sums Node
 tree_sums = record {
