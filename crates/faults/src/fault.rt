@@ -12,7 +12,7 @@ pub struct Fault {
 }
 
 impl Fault {
-    // A figure is a place, a count or a limit in nearly every case: a length of something in memory.
+    // Of a cause and a figure. Figures come as lengths and as places in what has a length.
     pub fn new(layer: Layer, figure: usize) -> Fault
         ensures { result ≡ fault_of layer figure }
     {

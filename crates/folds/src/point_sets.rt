@@ -47,6 +47,7 @@ impl Measure for PointsUsed {
 
     ghost exact = { exact_points };
 }
+
 // A value that is no point below 64 has no bit.
 fn bit_of(value: i32) -> u64
     ensures { result ≡ bit_of value }

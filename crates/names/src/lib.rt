@@ -1,4 +1,4 @@
-// From text that people write to what the other layers take. So far: the name list.
+// From the text of a name list to the names of a station's points.
 #![tactic(auto)]
 
 mod bad_line;

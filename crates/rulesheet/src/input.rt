@@ -7,13 +7,10 @@ use std::fs;
 use tables::{MOST_ROWS, Row};
 
 pub(crate) fn file(rt: &HostRuntime, path: &str) -> Result<Vec<u8>, Failure> {
-    match fs::read(rt, path) {
-        Ok(bytes) => Ok(bytes),
-        Err(e) => Err(Failure::new(rt, format_args!("cannot read {path}: {e}"))),
-    }
+    fs::read(rt, path).map_err(|e| Failure::new(rt, format_args!("cannot read {path}: {e}")))
 }
 
-// A refused list: the refusal, and which line breaks which rule.
+// The names of a list. Of a refused one it is told which line breaks which rule.
 pub(crate) fn name_list<'a>(
     rt: &HostRuntime,
     path: &str,
@@ -41,6 +38,7 @@ impl Sheet {
     pub(crate) fn read(rt: &HostRuntime, list_path: &str, path: &str) -> Result<Sheet, Failure> {
         let list = file(rt, list_path)?;
         let text = file(rt, path)?;
+        // here a refused list is explained; reading judges it again, since it trusts no caller
         let _ = name_list(rt, list_path, list.as_slice())?;
         let mut rows = vec![in rt.alloc(); Row::blank(); MOST_ROWS]?;
         match reader::read(list.as_slice(), text.as_slice(), rows.as_mut_slice()) {

@@ -39,6 +39,7 @@ A refusal goes to standard error, and the program ends with status 1.";
 
 const VERSION: &str = "rulesheet 0.1.0";
 
+// What fails is told here alone, so this is not a `Result`: an error that `main` returned would be printed a second time.
 fn main(rt: HostRuntime) -> ExitCode {
     match run(&rt) {
         Ok(()) => ExitCode::SUCCESS,
@@ -52,8 +53,7 @@ fn main(rt: HostRuntime) -> ExitCode {
 fn run(rt: &HostRuntime) -> Result<(), Failure> {
     let words: Vec<String> = env::args(rt)?.collect(rt.alloc())?;
     let [_, word, operands @ ..] = words.as_slice() else {
-        println!(rt; "{HELP}")?;
-        return Ok(());
+        return say(rt, HELP);
     };
     if let Some(task) = SheetTask::named(word.as_str()) {
         if task.takes(operands.len()) {
@@ -87,9 +87,14 @@ fn run(rt: &HostRuntime) -> Result<(), Failure> {
 fn perform(rt: &HostRuntime, task: Task, operands: &[String]) -> Result<(), Failure> {
     match (task, operands) {
         (Task::Names, [path]) => naming::names(rt, path.as_str()),
-        (Task::Version, _) => Ok(println!(rt; "{VERSION}")?),
-        _ => Ok(println!(rt; "{HELP}")?),
+        (Task::Version, _) => say(rt, VERSION),
+        _ => say(rt, HELP),
     }
+}
+
+fn say(rt: &HostRuntime, words: &str) -> Result<(), Failure> {
+    println!(rt; "{words}")?;
+    Ok(())
 }
 
 // The same for a task on a sheet or its code.
@@ -109,6 +114,6 @@ fn on_sheet(rt: &HostRuntime, task: SheetTask, operands: &[String]) -> Result<()
             sheet.as_str(),
             settings,
         ),
-        _ => Ok(println!(rt; "{HELP}")?),
+        _ => say(rt, HELP),
     }
 }

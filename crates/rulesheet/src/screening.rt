@@ -84,13 +84,12 @@ fn settle(
 }
 
 fn allowance_of(rt: &HostRuntime, word: &str) -> Result<u32, Failure> {
-    match word.parse::<u32>() {
-        Ok(steps) => Ok(steps),
-        Err(_) => Err(Failure::new(
+    word.parse::<u32>().map_err(|_| {
+        Failure::new(
             rt,
             format_args!("{word} is no allowance; it is a number from 0 to 4294967295"),
-        )),
-    }
+        )
+    })
 }
 
 // NAME=NUMBER

@@ -53,6 +53,7 @@ impl Cursor<'_> {
         };
         let mut depth: usize = 0;
         'ahead: loop {
+            // as the cursor's `next`, which would need the whole cursor lent
             let token = token_at(text, guard.position.at);
             guard.position.at = token.end;
             match sight_of(text, token) {

@@ -1,4 +1,4 @@
-// Where reading stands in a text: so small that functions that call each other hand it on, and keep the text beside it.
+// Where reading stands in a text: a record of its own, since a search borrows it and puts it back.
 
 #[derive(Clone, Copy, PartialEq, Eq, Debug)]
 pub struct Position {

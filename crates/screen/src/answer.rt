@@ -1,8 +1,7 @@
 // What a sheet comes to.
 use faults::Fault;
 
-// The fault for which it stopped, if it did not end: the same record that a refusal is. And the steps it took, a
-// stopping one counted.
+// The fault for which it stopped, or none where it ended: the record that a refusal is too. A stopping step is counted.
 #[derive(Clone, Copy, PartialEq, Eq, Debug)]
 pub struct Outcome {
     pub stop: Option<Fault>,

@@ -12,6 +12,7 @@ impl Work<'_> {
         requires { (q : ℕ) × (x : ℕ) × (e : SumTree) × SheetAt self.rows.now end (length points.old) (only (setOf q x e)) }
         ensures { (q x : ℕ) (e : SumTree) → SheetAt self.entry.rows.now end (length points.old) (only (setOf q x e)) → Ran points.old (only (setOf q x e)) before self.entry.allowance result points.new }
     {
+        // a match, as in `judge`
         match self.sum(end - 1, points, u64::from(before)) {
             Ok((value, worked)) => {
                 let made = self.allow(worked + 2)?;

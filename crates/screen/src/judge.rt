@@ -13,6 +13,7 @@ impl Work<'_> {
         requires { (h : ConditionTree) × ConditionAt self.rows.now end (length points.now) h }
         ensures { (h : ConditionTree) → ConditionAt self.entry.rows.now end (length points.now) h → JudgedAs h points.now before self.entry.allowance result }
     {
+        // a match, since what `map_err` gives is known by no name that a proof can cite
         match self.condition(end, points, u64::from(before)) {
             Ok((holds, tested)) => Ok((holds, self.allow(tested + 1)?)),
             Err(stop) => Err(self.halt(stop)),

@@ -54,7 +54,7 @@ impl Field<5> for Instruction {
     }
 }
 
-// A place in a sheet, which may be any number of two bytes.
+// Any number of two bytes: a place in a sheet, and each count of a file.
 impl Field<2> for u16 {
     ghost bytes_of = { two_bytes };
 

@@ -30,10 +30,7 @@ fn fits_at(rows: &[Row], i: usize, points: usize) -> bool
     if !allowed_value(row.kind, row.value, points) {
         return false;
     }
-    match first_start(rows, row.kind.parts(), i) {
-        Some(start) => row.size as usize == i - start + 1,
-        None => false,
-    }
+    first_start(rows, row.kind.parts(), i).is_some_and(|start| row.size as usize == i - start + 1)
 }
 
 // Where the first of the parts begins that end, one after the other, at `end`.
@@ -79,10 +76,7 @@ fn part_start(rows: &[Row], wanted: Sort, end: usize) -> Option<usize>
 fn whole_sheet(rows: &[Row]) -> bool
     ensures { result ≡ whole_sheet rows.now }
 {
-    match part_start(rows, Sort::Sheet, rows.len()) {
-        Some(start) => start == 0,
-        None => false,
-    }
+    part_start(rows, Sort::Sheet, rows.len()) == Some(0)
 }
 
 // What the value of a row of each kind may be.
