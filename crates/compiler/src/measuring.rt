@@ -18,7 +18,8 @@ pub(crate) fn measure(node: Node<'_>) -> Measure
         // Only where both parts are values is the second worked out above the first one's.
         Shape::Pair => {
             let (left, right) = node.two();
-            let parts = measure(left).then(measure(right).above());
+            let (left, right) = (measure(left), measure(right));
+            let parts = left.then(right.above());
             parts.under(shape, row.place)
         }
         Shape::If | Shape::While | Shape::Joint => {

@@ -19,27 +19,27 @@ under-requires t c = omega (arith, (small _ _ _ c.last.result.stands c.last.resu
 -- two parts, the second worked out above the first
 
 pub above-requires : goal.above-requires
-above-requires t c = omega (arith, (small _ _ _ c.two.result.1.stands c.two.result.1.few c.measure-in-Pair-2.ensures).depth)
+above-requires t c = omega (arith, (small _ _ _ c.two.result.1.stands c.two.result.1.few c.measure-right.ensures).depth)
 
 pub then-parts-requires : goal.then-parts-requires
 then-parts-requires t c =
-    let x = small _ _ _ c.two.result.0.stands c.two.result.0.few c.measure-in-Pair.ensures in
-    let y = small _ _ _ c.two.result.1.stands c.two.result.1.few c.measure-in-Pair-2.ensures in
+    let x = small _ _ _ c.two.result.0.stands c.two.result.0.few c.measure-left.ensures in
+    let y = small _ _ _ c.two.result.1.stands c.two.result.1.few c.measure-right.ensures in
     rw c.above.ensures (omega (arith, x.length, y.length))
 
 pub under-requires-in-Pair : goal.under-requires-in-Pair
 under-requires-in-Pair t c =
-    let x = small _ _ _ c.two.result.0.stands c.two.result.0.few c.measure-in-Pair.ensures in
-    let y = small _ _ _ c.two.result.1.stands c.two.result.1.few c.measure-in-Pair-2.ensures in
+    let x = small _ _ _ c.two.result.0.stands c.two.result.0.few c.measure-left.ensures in
+    let y = small _ _ _ c.two.result.1.stands c.two.result.1.few c.measure-right.ensures in
     rw (c.then-parts.ensures, c.above.ensures) (omega (arith, x.length, y.length, own-short c.from-shape.result))
 
 pub returns-in-Pair : goal.returns-in-Pair
 returns-in-Pair t c v s =
     let k : part_count (shape_at c.args.node.rows.now c.args.node.end) ≡ 2 = search rules in
     let O = two-of c.args.node.rows.now c.args.node.end v s k in
-    let x = c.measure-in-Pair.ensures O.x (standing-at c.two.ensures.left O.left) in
-    let y = c.measure-in-Pair-2.ensures O.y (standing-at c.two.ensures.right O.right) in
-    let m : c.under-in-Pair.result ≡ two_measure c.from-shape.result c.row-row.result.place c.measure-in-Pair.result c.measure-in-Pair-2.result = rw (c.under-in-Pair.ensures, c.then-parts.ensures, c.above.ensures, c.in-Pair.is) in
+    let x = c.measure-left.ensures O.x (standing-at c.two.ensures.left O.left) in
+    let y = c.measure-right.ensures O.y (standing-at c.two.ensures.right O.right) in
+    let m : c.under-in-Pair.result ≡ two_measure c.from-shape.result c.row-row.result.place c.measure-left.result c.measure-right.result = rw (c.under-in-Pair.ensures, c.then-parts.ensures, c.above.ensures, c.in-Pair.is) in
     rw (m, x, y, c.from-shape.ensures, c.row-row.ensures) (sym (ap (λ (w : Part). w.measure) O.is))
 
 -- one part and then another
