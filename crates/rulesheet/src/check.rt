@@ -1,7 +1,6 @@
 // `rulesheet check [--code] NAMES SHEET`
 use crate::code::Code;
 use crate::failure::Failure;
-use crate::input;
 use crate::input::Sheet;
 use crate::listing::{name_of, print_code};
 use faults::Fault;
@@ -11,21 +10,26 @@ use tables::{Kind, Row};
 
 // The words are the two files, with `--code` before or behind them.
 pub(crate) fn check(rt: &HostRuntime, words: &[String]) -> Result<(), Failure> {
-    let (list, text, with_code) = match words {
+    let (list_path, sheet_path, with_code) = match words {
         [list, sheet] => (list, sheet, false),
         [flag, list, sheet] if flag.as_str() == "--code" => (list, sheet, true),
         [list, sheet, flag] if flag.as_str() == "--code" => (list, sheet, true),
         _ => return Err(Failure::new(rt, "check takes a name list and a sheet, and --code")),
     };
-    table(rt, list.as_str(), text.as_str(), with_code)
+    table(rt, list_path.as_str(), sheet_path.as_str(), with_code)
 }
 
-fn table(rt: &HostRuntime, list: &str, text: &str, with_code: bool) -> Result<(), Failure> {
-    let sheet = Sheet::read(rt, list, text)?;
-    let names = sheet.names(rt, list)?;
+fn table(
+    rt: &HostRuntime,
+    list_path: &str,
+    sheet_path: &str,
+    with_code: bool,
+) -> Result<(), Failure> {
+    let sheet = Sheet::read(rt, list_path, sheet_path)?;
+    let names = sheet.names(rt)?;
     print_rows(rt, &names, sheet.rows.as_slice())?;
-    print_measures(rt, &names, text, &sheet)?;
-    let code = Code::of(rt, &names, text, &sheet)?;
+    print_measures(rt, &names, &sheet)?;
+    let code = Code::of(rt, &names, &sheet)?;
     let count = code.instructions.len();
     println!(rt; "{count} instructions")?;
     if with_code {
@@ -63,52 +67,17 @@ fn print_rows(rt: &HostRuntime, names: &NameList, rows: &[Row]) -> Result<(), Fa
 }
 
 // The table's measures, as the compiler and the station will find them.
-#[derive(Clone, Copy)]
-struct Measures {
-    length: u32,
-    depth: u32,
-    used: u64,
-}
-
-fn print_measures(
-    rt: &HostRuntime,
-    names: &NameList,
-    path: &str,
-    sheet: &Sheet,
-) -> Result<(), Failure> {
+fn print_measures(rt: &HostRuntime, names: &NameList, sheet: &Sheet) -> Result<(), Failure> {
     let rows = sheet.rows.as_slice();
     let mut slots = vec![in rt.alloc(); 0u32; rows.len()]?;
     let mut sets = vec![in rt.alloc(); 0u64; rows.len()]?;
-    match measured(
+    let (length, depth, used) = measured(
         rows,
         names.count(),
         slots.as_mut_slice(),
         sets.as_mut_slice(),
-    ) {
-        Ok(measures) => print_found(rt, names, measures),
-        Err(fault) => Err(input::refused(rt, path, sheet.text.as_slice(), fault)),
-    }
-}
-
-fn measured(
-    rows: &[Row],
-    points: usize,
-    slots: &mut [u32],
-    sets: &mut [u64],
-) -> Result<Measures, Fault> {
-    Ok(Measures {
-        length: CodeLength.measure(rows, points, slots)?,
-        depth: StackDepth.measure(rows, points, slots)?,
-        used: PointsUsed.measure(rows, points, sets)?,
-    })
-}
-
-fn print_found(rt: &HostRuntime, names: &NameList, found: Measures) -> Result<(), Failure> {
-    let Measures {
-        length,
-        depth,
-        used,
-    } = found;
+    )
+    .map_err(|fault| sheet.refused(rt, fault))?;
     println!(rt; "code length {length}, depth {depth}")?;
     print!(rt; "points used")?;
     // by number, since the number is what the set of points is asked for
@@ -120,4 +89,17 @@ fn print_found(rt: &HostRuntime, names: &NameList, found: Measures) -> Result<()
     }
     println!(rt)?;
     Ok(())
+}
+
+// Code length, depth, and the set of points used.
+fn measured(
+    rows: &[Row],
+    points: usize,
+    slots: &mut [u32],
+    sets: &mut [u64],
+) -> Result<(u32, u32, u64), Fault> {
+    let length = CodeLength.measure(rows, points, slots)?;
+    let depth = StackDepth.measure(rows, points, slots)?;
+    let used = PointsUsed.measure(rows, points, sets)?;
+    Ok((length, depth, used))
 }

@@ -13,23 +13,25 @@ use std::fs;
 // The most bytes a file can have: two counts of two bytes, 1,024 instructions of five, a count and 1,024 places of two.
 const MOST_BYTES: usize = 6 + 7 * MOST_INSTRUCTIONS;
 
-pub(crate) fn write(rt: &HostRuntime, list: &str, text: &str, path: &str) -> Result<(), Failure> {
-    let sheet = Sheet::read(rt, list, text)?;
-    let names = sheet.names(rt, list)?;
-    let code = Code::of(rt, &names, text, &sheet)?;
+pub(crate) fn write(
+    rt: &HostRuntime,
+    list_path: &str,
+    sheet_path: &str,
+    path: &str,
+) -> Result<(), Failure> {
+    let sheet = Sheet::read(rt, list_path, sheet_path)?;
+    let names = sheet.names(rt)?;
+    let code = Code::of(rt, &names, &sheet)?;
     let mut bytes = vec![in rt.alloc(); 0u8; MOST_BYTES]?;
-    match laid(
+    let length = laid(
         bytes.as_mut_slice(),
         names.count(),
         code.instructions.as_slice(),
         code.places.as_slice(),
-    ) {
-        Ok(length) => {
-            bytes.truncate(length);
-            save(rt, path, bytes.as_slice(), code.instructions.len())
-        }
-        Err(fault) => Err(Failure::new(rt, format_args!("{path}: {fault}"))),
-    }
+    )
+    .map_err(|fault| Failure::new(rt, format_args!("{path}: {fault}")))?;
+    bytes.truncate(length);
+    save(rt, path, bytes.as_slice(), code.instructions.len())
 }
 
 // The file's bytes, section by section, and how many they are.
@@ -47,9 +49,10 @@ fn laid(
 }
 
 fn save(rt: &HostRuntime, path: &str, bytes: &[u8], count: usize) -> Result<(), Failure> {
-    if let Err(e) = fs::write(rt, path, bytes) {
-        return Err(Failure::new(rt, format_args!("cannot write {path}: {e}")));
-    }
+    fs::write(rt, path, bytes).map_err(|e| Failure::new(
+        rt,
+        format_args!("cannot write {path}: {e}"),
+    ))?;
     let length = bytes.len();
     println!(rt; "{path}: {count} instructions, {length} bytes")?;
     Ok(())
@@ -73,15 +76,16 @@ pub(crate) fn list(rt: &HostRuntime, path: &str, words: &[String]) -> Result<(),
 
 fn show(rt: &HostRuntime, path: &str, names: Option<NameList>) -> Result<(), Failure> {
     let bytes = input::file(rt, path)?;
-    match StationFile::read(bytes.as_slice()) {
-        Ok(file) => {
-            let points = file.points();
-            let count = file.instructions().len();
-            println!(rt; "{points} points, {count} instructions")?;
-            print_code(rt, names, file.instructions(), file.places())
-        }
-        Err(fault) => Err(refused(rt, path, bytes.as_slice(), fault)),
-    }
+    let file = StationFile::read(bytes.as_slice()).map_err(|fault| refused(
+        rt,
+        path,
+        bytes.as_slice(),
+        fault,
+    ))?;
+    let points = file.points();
+    let count = file.instructions().len();
+    println!(rt; "{points} points, {count} instructions")?;
+    print_code(rt, names, file.instructions(), file.places())
 }
 
 // A refused file, and the byte at the refused position.

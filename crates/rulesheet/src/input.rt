@@ -16,47 +16,58 @@ pub(crate) fn name_list<'a>(
     path: &str,
     text: &'a [u8],
 ) -> Result<NameList<'a>, Failure> {
-    match NameList::read(text) {
-        Ok(names) => Ok(names),
-        Err(fault) => match first_bad_line(text) {
-            Some(bad) => Err(Failure::new(rt, format_args!("{path}: {bad}"))),
-            None => Err(Failure::new(rt, format_args!("{path}: {fault}"))),
-        },
-    }
+    NameList::read(text).map_err(|fault| match first_bad_line(text) {
+        Some(bad) => Failure::new(rt, format_args!("{path}: {bad}")),
+        None => Failure::new(rt, format_args!("{path}: {fault}")),
+    })
 }
 
-// A name list, a sheet, and the rows of its table.
+// A name list and a sheet, by their files, and the rows of the sheet's table.
 #[derive(Drop)]
-pub(crate) struct Sheet {
+pub(crate) struct Sheet<'a> {
+    list_path: &'a str,
     list: Vec<u8>,
+    path: &'a str,
     pub(crate) text: Vec<u8>,
     pub(crate) rows: Vec<Row>,
 }
 
-impl Sheet {
+impl<'a> Sheet<'a> {
     // The sheet in the second file under the names in the first.
-    pub(crate) fn read(rt: &HostRuntime, list_path: &str, path: &str) -> Result<Sheet, Failure> {
+    pub(crate) fn read(
+        rt: &HostRuntime,
+        list_path: &'a str,
+        path: &'a str,
+    ) -> Result<Sheet<'a>, Failure> {
         let list = file(rt, list_path)?;
         let text = file(rt, path)?;
         // here a refused list is explained; reading judges it again, since it trusts no caller
         let _ = name_list(rt, list_path, list.as_slice())?;
         let mut rows = vec![in rt.alloc(); Row::blank(); MOST_ROWS]?;
-        match reader::read(list.as_slice(), text.as_slice(), rows.as_mut_slice()) {
-            Ok(count) => {
-                rows.truncate(count);
-                Ok(Sheet { list, text, rows })
-            }
-            Err(fault) => Err(refused(rt, path, text.as_slice(), fault)),
-        }
+        let count = reader::read(list.as_slice(), text.as_slice(), rows.as_mut_slice()).map_err(
+            |fault| refused(rt, path, text.as_slice(), fault),
+        )?;
+        rows.truncate(count);
+        Ok(Sheet {
+            list_path,
+            list,
+            path,
+            text,
+            rows,
+        })
     }
 
-    pub(crate) fn names(&self, rt: &HostRuntime, list_path: &str) -> Result<NameList<'_>, Failure> {
-        name_list(rt, list_path, self.list.as_slice())
+    pub(crate) fn names(&self, rt: &HostRuntime) -> Result<NameList<'_>, Failure> {
+        name_list(rt, self.list_path, self.list.as_slice())
+    }
+
+    pub(crate) fn refused(&self, rt: &HostRuntime, fault: Fault) -> Failure {
+        refused(rt, self.path, self.text.as_slice(), fault)
     }
 }
 
 // A refusal of a sheet, and its line with a caret where the figure is a place in it.
-pub(crate) fn refused(rt: &HostRuntime, path: &str, text: &[u8], fault: Fault) -> Failure {
+fn refused(rt: &HostRuntime, path: &str, text: &[u8], fault: Fault) -> Failure {
     if figure_is_a_place(fault.layer) {
         let line = line_at(text, usize::try_from(fault.figure).unwrap_or(text.len()));
         Failure::new(rt, format_args!("{path}: {fault}\n{line}"))

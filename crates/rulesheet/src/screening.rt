@@ -12,22 +12,20 @@ const ALLOWANCE: u32 = 1_000_000;
 // The words after NAMES and SHEET.
 pub(crate) fn work_out(
     rt: &HostRuntime,
-    list: &str,
-    text: &str,
+    list_path: &str,
+    sheet_path: &str,
     settings: &[String],
 ) -> Result<(), Failure> {
-    let sheet = Sheet::read(rt, list, text)?;
-    let names = sheet.names(rt, list)?;
+    let sheet = Sheet::read(rt, list_path, sheet_path)?;
+    let names = sheet.names(rt)?;
     let mut before = vec![in rt.alloc(); 0i32; names.count()]?;
     let allowance = settle(rt, &names, settings, before.as_mut_slice())?;
     let mut after = before.as_slice().to_vec(rt.alloc())?;
-    match screen::work_out(sheet.rows.as_slice(), after.as_mut_slice(), allowance) {
-        Ok(outcome) => {
-            print_answer(rt, sheet.text.as_slice(), outcome)?;
-            print_points(rt, &names, before.as_slice(), after.as_slice())
-        }
-        Err(fault) => Err(Failure::new(rt, format_args!("{text}: {fault}"))),
-    }
+    let outcome = screen::work_out(sheet.rows.as_slice(), after.as_mut_slice(), allowance).map_err(
+        |fault| sheet.refused(rt, fault),
+    )?;
+    print_answer(rt, sheet.text.as_slice(), outcome)?;
+    print_points(rt, &names, before.as_slice(), after.as_slice())
 }
 
 fn print_answer(rt: &HostRuntime, text: &[u8], outcome: Outcome) -> Result<(), Failure> {
