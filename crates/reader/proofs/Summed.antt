@@ -22,7 +22,7 @@ use Rattle.reader.specs.declared.seen.Seen.{Seen}
 use Rattle.reader.specs.declared.seen.Refusal.{Refusal}
 use Rattle.reader.specs.declared.progress.Progress.{Progress}
 use Rattle.reader.specs.Ahead.{ahead, follow, HereIs, seen_as}
-use Rattle.reader.specs.Progressing.{told, told_leaf, read_on, Passed, Missed, Wrote, from}
+use Rattle.reader.specs.Progressing.{told, told_leaf, read_on, outside, Passed, Missed, Wrote, from}
 use Rattle.reader.specs.Summing.{behind_sum, NoFactor, NoProd, SumSoFar, TookSum, TookProd, TookFactor}
 use Rattle.reader.proofs.Bracketing.{missing}
 use Rattle.reader.proofs.Entering.{Entered, Barred}
@@ -97,14 +97,16 @@ module _ {names : List (List ℕ)} {text : List ℕ} where
       bracket-entered h e i t f k ∙ took.moves (within t f k)
       ∙ behind_sum_lem m.seen.lexeme m.here refl (within t f k) took.tree z.depth ∙ missing m _ _
 
-  pub bracket-read : {a y z w : Progress} {old new : List Row} {s u : Seen} (f : Progress) → HereIs names text a.position.at s → operand_of s.lexeme ≡ Ok operand.Bracket → Entered a s y → TookSum names text y old z new → Passed mark.Close names text z w u → f.position ≡ w.position → f.count ≡ w.count → f.depth ≡ w.depth - 1 → TookFactor names text a old f new
-  bracket-read {a} {y} {z} {w} {old} {new} {s} {u} f h e i took pass fp fc fd =
+  pub bracket-read : {a y z w : Progress} {old new : List Row} {s u : Seen} (f : Progress) → HereIs names text a.position.at s → operand_of s.lexeme ≡ Ok operand.Bracket → Entered a s y → TookSum names text y old z new → Passed mark.Close names text z w u → f ≡ outside w → TookFactor names text a old f new
+  bracket-read {a} {y} {z} {w} {old} {new} {s} {u} f h e i took pass on =
+      let fc : f.count ≡ w.count = ap (λ (p : Progress). p.count) on in
+      let fd : f.depth ≡ w.depth - 1 = ap (λ (p : Progress). p.depth) on in
       let yd : y.depth ≡ suc a.depth = ap (λ (p : Progress). p.depth) i.on in
       let yc : y.count ≡ a.count = ap (λ (p : Progress). p.count) i.on in
       let ya : y.position.at ≡ s.end = ap (λ (p : Progress). p.position.at) i.on in
       let wd : w.depth ≡ z.depth = ap (λ (p : Progress). p.depth) pass.on in
       let wc : w.count ≡ z.count = ap (λ (p : Progress). p.count) pass.on in
-      let fa : f.position.at ≡ u.end = ap (λ p. p.at) fp ∙ ap (λ (p : Progress). p.position.at) pass.on in
+      let fa : f.position.at ≡ u.end = ap (λ (p : Progress). p.position.at) on ∙ ap (λ (p : Progress). p.position.at) pass.on in
       let zd : z.depth ≡ suc a.depth = took.wrote.depth ∙ yd in
       let d : f.depth ≡ a.depth = omega arith in
       let lt : a.position.at < s.end = further lexeme.Open h (bracket-taken e) tt in

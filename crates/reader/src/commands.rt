@@ -104,7 +104,7 @@ impl Reader<'_> {
             return Err(end.refusal());
         }
         self.progress.pass(end);
-        self.progress.depth -= 1;
+        self.progress.leave();
         Ok(())
     }
 }

@@ -77,7 +77,7 @@ impl Reader<'_> {
         self.progress.enter(seen)?;
         self.condition()?;
         let _ = self.expect(Mark::Close)?;
-        self.progress.depth -= 1;
+        self.progress.leave();
         Ok(())
     }
 

@@ -62,7 +62,7 @@ impl Reader<'_> {
                 self.progress.enter(seen)?;
                 self.sum()?;
                 let _ = self.expect(Mark::Close)?;
-                self.progress.depth -= 1;
+                self.progress.leave();
                 Ok(())
             }
         }

@@ -28,7 +28,7 @@ pub block-returns : goal.block-returns
 block-returns t c =
     let entry = c.in_ok-seen.ensures in
     let sheet = c.in_ok-sheet.ensures in
-    record { answer = rw (sym entry.rows) (block_read entry.answer (entered c.in_ok-enter.ensures) (on sheet entry.same) (here (sheet.same ∙ entry.same) c.see-end.ensures) (search rules) c.pass.ensures); same = sheet.same ∙ entry.same }
+    record { answer = rw (c.leave.ensures, sym entry.rows) (block_read entry.answer (entered c.in_ok-enter.ensures) (on sheet entry.same) (here (sheet.same ∙ entry.same) c.see-end.ensures) (search rules) c.pass.ensures); same = sheet.same ∙ entry.same }
 
 pub command-returns-in-CloseBlock : goal.command-returns-in-CloseBlock
 command-returns-in-CloseBlock t c =

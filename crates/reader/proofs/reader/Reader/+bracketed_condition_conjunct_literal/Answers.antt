@@ -24,7 +24,7 @@ pub bracketed-returns : goal.bracketed-returns
 bracketed-returns t c =
     let condition = c.in_ok-condition.ensures in
     let read = bracket-read c.in_ok-seen.ensures.answer (entered c.in_ok-enter.ensures) (on condition c.in_ok-seen.ensures.same) (passed (condition.same ∙ c.in_ok-seen.ensures.same) c.in_ok-expect.ensures.answer) in
-    record { answer = rw (c.in_ok-expect.ensures.rows, sym c.in_ok-seen.ensures.rows) read; same = c.in_ok-expect.ensures.same ∙ condition.same ∙ c.in_ok-seen.ensures.same }
+    record { answer = rw (c.leave.ensures, c.in_ok-expect.ensures.rows, sym c.in_ok-seen.ensures.rows) read; same = c.in_ok-expect.ensures.same ∙ condition.same ∙ c.in_ok-seen.ensures.same }
 
 pub condition-returns-in_err-condition : goal.condition-returns-in_err-condition
 condition-returns-in_err-condition t c =

@@ -30,7 +30,7 @@ pub factor-returns-in_ok-expect-in-Bracket : goal.factor-returns-in_ok-expect-in
 factor-returns-in_ok-expect-in-Bracket t c =
     let is = seen-taken c.see-seen.result _ c.in_ok-value.ensures c.in-Bracket.is in
     let sum = c.in_ok-sum-in-Bracket.ensures in
-    record { answer = rw c.in_ok-expect-in-Bracket.ensures.rows (bracket-read _ c.see-seen.ensures is (entered c.in_ok-enter-in-Bracket.ensures) sum.answer (passed sum.same c.in_ok-expect-in-Bracket.ensures.answer) refl refl refl); same = c.in_ok-expect-in-Bracket.ensures.same ∙ sum.same }
+    record { answer = rw c.in_ok-expect-in-Bracket.ensures.rows (bracket-read _ c.see-seen.ensures is (entered c.in_ok-enter-in-Bracket.ensures) sum.answer (passed sum.same c.in_ok-expect-in-Bracket.ensures.answer) c.leave.ensures); same = c.in_ok-expect-in-Bracket.ensures.same ∙ sum.same }
 
 pub factor-returns-in-Number : goal.factor-returns-in-Number
 factor-returns-in-Number t c =
