@@ -257,10 +257,10 @@ pub ended-early : {names : List (List ℕ)} {text : List ℕ} (a : Progress) {s 
 ended-early a {s} h is why [] b w = taking lexeme.End h (end-taken is) a.depth (cmd [] b) ∙ sym (ap (λ l. refused (refusal_of l) s.place) (end-taken is)) ∙ why-refused why
 ended-early a h is why (c ∷ cs) b w = absurd (w (closes _ _ _ (next lexeme.End h (end-taken is)) tt))
 
-pub no-command : {names : List (List ℕ)} {text : List ℕ} (a : Progress) {s : Seen} {r : Refusal} → HereIs names text a.position.at s → Err r ≡ seen_as s (command_of s.lexeme) → (cs : List Command) (b : Block) → from names text a (cmd cs b) ≡ refused r.cause r.place
-no-command a {s} {r} h e cs b =
-    let why = seen-refused s (command_of s.lexeme) e in
-    refusing h a.depth (cmd cs b) r.cause s.place (ap (λ k. commanded k s.place cs b) why.0) ∙ ap (refused r.cause) (sym why.1)
+pub no-command : {names : List (List ℕ)} {text : List ℕ} (a : Progress) {s : Seen} {r : Refusal} → HereIs names text a.position.at s → {w : Result CommandStart ReaderCause} → w ≡ command_of s.lexeme → Err r ≡ seen_as s w → (cs : List Command) (b : Block) → from names text a (cmd cs b) ≡ refused r.cause r.place
+no-command a {s} {r} h {w} same e cs b =
+    let why = seen-refused s w e in
+    refusing h a.depth (cmd cs b) r.cause s.place (ap (λ k. commanded k s.place cs b) (sym same ∙ why.0)) ∙ ap (refused r.cause) (sym why.1)
 
 -- sheets
 

@@ -1,5 +1,5 @@
 -- One turn of each of the functions that read sums.
-use Rattle.std.proofs.Common.{◌≡◌, ℕ, suc, pred, ◌+◌, ◌-◌, ◌<◌, ◌≤◌, List, length, ℤ, pos, Some, None, Ok, Err, Option, sym, refl, ap, ◌∙◌, subst, arith, w32, to_z}
+use Rattle.std.proofs.Common.{◌≡◌, ℕ, suc, pred, ◌+◌, ◌-◌, ◌<◌, ◌≤◌, List, length, ℤ, pos, Some, None, Ok, Err, Option, Result, sym, refl, ap, ◌∙◌, subst, arith, w32, to_z}
 use Rattle.std.proofs.lemmas.Int.{to_z_pos}
 use Rattle.faults.specs.declared.causes.ReaderCause.{ReaderCause}
 use Rattle.faults.specs.declared.causes.ReaderCause.TheVariants.{TooManyOpen}
@@ -11,6 +11,7 @@ use Rattle.tables.specs.Trees.{Sum, number, name, work}
 use Rattle.tables.specs.Rows.{operator_kind, sum_size, sum_rows}
 use Rattle.grammar.specs.declared.lexeme.Lexeme.{Lexeme}
 use Rattle.grammar.specs.declared.lexeme.Lexeme.TheVariants as lexeme
+use Rattle.grammar.specs.declared.choice.Operand.{Operand}
 use Rattle.grammar.specs.declared.choice.Operand.TheVariants as operand
 use Rattle.grammar.specs.declared.choice.Join.{Join}
 use Rattle.grammar.specs.declared.choice.Join.TheVariants as join
@@ -66,10 +67,10 @@ module _ {names : List (List ℕ)} {text : List ℕ} where
         wrote = leaf-told a kind.Name (pos x) s refl (further (lexeme.Name x) h l tt) (h.within in-text);
       })
 
-  pub no-factor : (a : Progress) {s : Seen} {r : Refusal} → HereIs names text a.position.at s → Err r ≡ seen_as s (operand_of s.lexeme) → (t m : Left) (k : Use) → from names text a (want t m k) ≡ refused r.cause r.place
-  no-factor a {s} {r} h e t m k =
-      let why = seen-refused s (operand_of s.lexeme) e in
-      refusing h a.depth (want t m k) r.cause s.place (ap (λ o. wanted a.depth s.place o t m k) why.0) ∙ ap (refused r.cause) (sym why.1)
+  pub no-factor : (a : Progress) {s : Seen} {r : Refusal} → HereIs names text a.position.at s → {w : Result Operand ReaderCause} → w ≡ operand_of s.lexeme → Err r ≡ seen_as s w → (t m : Left) (k : Use) → from names text a (want t m k) ≡ refused r.cause r.place
+  no-factor a {s} {r} h {w} same e t m k =
+      let why = seen-refused s w e in
+      refusing h a.depth (want t m k) r.cause s.place (ap (λ o. wanted a.depth s.place o t m k) (sym same ∙ why.0)) ∙ ap (refused r.cause) (sym why.1)
 
   -- a sum in brackets
 

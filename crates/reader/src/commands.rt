@@ -19,7 +19,7 @@ impl Reader<'_> {
         let first = self.progress.count;
         self.command()?;
         let seen = self.see();
-        match seen.command_start()? {
+        match seen.taken(seen.lexeme.command_start())? {
             CommandStart::CloseBlock | CommandStart::End => Ok(()),
             _ => {
                 self.sheet()?;
@@ -34,7 +34,7 @@ impl Reader<'_> {
         ensures { Reads CommandAnswer self.old self.new result }
     {
         let seen = self.see();
-        match seen.command_start()? {
+        match seen.taken(seen.lexeme.command_start())? {
             CommandStart::Set(point) => self.set_command(seen, point),
             CommandStart::If => self.if_command(seen),
             CommandStart::While => self.while_command(seen),

@@ -49,7 +49,7 @@ impl Reader<'_> {
         ensures { Reads FactorAnswer self.old self.new result }
     {
         let seen = self.see();
-        match seen.operand()? {
+        match seen.taken(seen.lexeme.operand())? {
             Operand::Number(value) => {
                 self.leaf(Kind::Number, value, seen);
                 Ok(())

@@ -35,12 +35,12 @@ command-returns-in-CloseBlock t c =
     let s = c.see-seen.result in
     let is = c.in_ok-point.ensures in
     record {
-      answer = ⊎_elim (λ e. closed-early c.args.self.now.progress c.see-seen.ensures (seen-taken s _ is e) c.refusal.ensures) (λ e. ended-early c.args.self.now.progress c.see-seen.ensures (seen-taken s _ is e) c.refusal.ensures) c.in-CloseBlock.is;
+      answer = ⊎_elim (λ e. closed-early c.args.self.now.progress c.see-seen.ensures (seen-taken s c.command_start.ensures is e) c.refusal.ensures) (λ e. ended-early c.args.self.now.progress c.see-seen.ensures (seen-taken s c.command_start.ensures is e) c.refusal.ensures) c.in-CloseBlock.is;
       same = refl;
     }
 
 pub command-returns-in_err-point : goal.command-returns-in_err-point
-command-returns-in_err-point t c = stops (err_from_is_err_and c.from_residual.result c.from_residual.ensures.1) refl (λ cs b w. no-command c.args.self.now.progress c.see-seen.ensures c.in_err-point.ensures cs b)
+command-returns-in_err-point t c = stops (err_from_is_err_and c.from_residual.result c.from_residual.ensures.1) refl (λ cs b w. no-command c.args.self.now.progress c.see-seen.ensures c.command_start.ensures c.in_err-point.ensures cs b)
 
 pub if_command-returns-in_err-bracketed : goal.if_command-returns-in_err-bracketed
 if_command-returns-in_err-bracketed t c = stops (err_from_is_err_and c.from_residual.result c.from_residual.ensures.1) c.in_err-bracketed.ensures.same (if-no-head c.requires c.pass.ensures c.in_err-bracketed.ensures.answer)
@@ -70,19 +70,19 @@ if_command-returns t c =
     let same = body.same ∙ head.same in
     record { answer = choose-read c.requires c.pass.ensures head.answer (on body head.same) (here same c.see-next.ensures) (search rules) c.pass-2.ensures (on c.in_ok-block-2.ensures same) c.tell-2.ensures.value; same = c.tell-2.ensures.same ∙ c.in_ok-block-2.ensures.same ∙ same }
 
-pub sheet-returns-in_err-command_start : goal.sheet-returns-in_err-command_start
-sheet-returns-in_err-command_start t c =
+pub sheet-returns-in_err-taken : goal.sheet-returns-in_err-taken
+sheet-returns-in_err-taken t c =
     let first = c.in_ok-command.ensures in
-    stops (err_from_is_err_and c.from_residual-in_err-command_start.result c.from_residual-in_err-command_start.ensures.1) first.same (λ cs b w. first.answer.moves cs b ∙ no-command c.command.new.self.progress (here first.same c.see-seen.ensures) c.in_err-command_start.ensures (first.answer.tree ∷ cs) b)
+    stops (err_from_is_err_and c.from_residual-in_err-taken.result c.from_residual-in_err-taken.ensures.1) first.same (λ cs b w. first.answer.moves cs b ∙ no-command c.command.new.self.progress (here first.same c.see-seen.ensures) c.command_start.ensures c.in_err-taken.ensures (first.answer.tree ∷ cs) b)
 
 pub sheet-returns-in-CloseBlock : goal.sheet-returns-in-CloseBlock
 sheet-returns-in-CloseBlock t c =
     let first = c.in_ok-command.ensures in
     let s = c.see-seen.result in
-    let is = c.in_ok-command_start.ensures in
+    let is = c.in_ok-taken.ensures in
     record {
       answer = one-command first.answer (here first.same c.see-seen.ensures)
-          (⊎_elim (λ e. ends-sheet (seen-taken s _ is e) tt) (λ e. ends-sheet (seen-taken s _ is e) tt) c.in-CloseBlock.is);
+          (⊎_elim (λ e. ends-sheet (seen-taken s c.command_start.ensures is e) tt) (λ e. ends-sheet (seen-taken s c.command_start.ensures is e) tt) c.in-CloseBlock.is);
       same = first.same;
     }
 

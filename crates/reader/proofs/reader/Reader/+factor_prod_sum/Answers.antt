@@ -12,39 +12,39 @@ use Rattle.reader.proofs.reader.Reader.+factor_prod_sum.Goals as goal
 
 pub factor-returns-in_err-enter-in-Bracket : goal.factor-returns-in_err-enter-in-Bracket
 factor-returns-in_err-enter-in-Bracket t c =
-    let is = seen-taken c.see-seen.result _ c.in_ok-value.ensures c.in-Bracket.is in
+    let is = seen-taken c.see-seen.result c.operand.ensures c.in_ok-value.ensures c.in-Bracket.is in
     stops (err_from_is_err_and c.from_residual-in_err-enter-in-Bracket.result c.from_residual-in_err-enter-in-Bracket.ensures.1) refl (bracket-barred c.see-seen.ensures is (barred c.in_err-enter-in-Bracket.ensures))
 
 pub factor-returns-in_err-sum-in-Bracket : goal.factor-returns-in_err-sum-in-Bracket
 factor-returns-in_err-sum-in-Bracket t c =
-    let is = seen-taken c.see-seen.result _ c.in_ok-value.ensures c.in-Bracket.is in
+    let is = seen-taken c.see-seen.result c.operand.ensures c.in_ok-value.ensures c.in-Bracket.is in
     stops (err_from_is_err_and c.from_residual-in_err-sum-in-Bracket.result c.from_residual-in_err-sum-in-Bracket.ensures.1) c.in_err-sum-in-Bracket.ensures.same (bracket-refused c.see-seen.ensures is (entered c.in_ok-enter-in-Bracket.ensures) c.in_err-sum-in-Bracket.ensures.answer)
 
 pub factor-returns-in_err-expect-in-Bracket : goal.factor-returns-in_err-expect-in-Bracket
 factor-returns-in_err-expect-in-Bracket t c =
-    let is = seen-taken c.see-seen.result _ c.in_ok-value.ensures c.in-Bracket.is in
+    let is = seen-taken c.see-seen.result c.operand.ensures c.in_ok-value.ensures c.in-Bracket.is in
     let sum = c.in_ok-sum-in-Bracket.ensures in
     stops (err_from_is_err_and c.from_residual-in_err-expect-in-Bracket.result c.from_residual-in_err-expect-in-Bracket.ensures.1) (c.in_err-expect-in-Bracket.ensures.same ∙ sum.same) (bracket-unclosed c.see-seen.ensures is (entered c.in_ok-enter-in-Bracket.ensures) sum.answer (missed sum.same c.in_err-expect-in-Bracket.ensures.answer))
 
 pub factor-returns-in_ok-expect-in-Bracket : goal.factor-returns-in_ok-expect-in-Bracket
 factor-returns-in_ok-expect-in-Bracket t c =
-    let is = seen-taken c.see-seen.result _ c.in_ok-value.ensures c.in-Bracket.is in
+    let is = seen-taken c.see-seen.result c.operand.ensures c.in_ok-value.ensures c.in-Bracket.is in
     let sum = c.in_ok-sum-in-Bracket.ensures in
     record { answer = rw c.in_ok-expect-in-Bracket.ensures.rows (bracket-read _ c.see-seen.ensures is (entered c.in_ok-enter-in-Bracket.ensures) sum.answer (passed sum.same c.in_ok-expect-in-Bracket.ensures.answer) c.leave.ensures); same = c.in_ok-expect-in-Bracket.ensures.same ∙ sum.same }
 
 pub factor-returns-in-Number : goal.factor-returns-in-Number
 factor-returns-in-Number t c =
     let f : SFits w32 c.in-Number.value = search rules in
-    let is = seen-taken c.see-seen.result _ c.in_ok-value.ensures c.in-Number.is in
+    let is = seen-taken c.see-seen.result c.operand.ensures c.in_ok-value.ensures c.in-Number.is in
     record { answer = number_read c.see-seen.ensures is c.args.self.now.stands.within (to_z w32 (of_z w32 c.in-Number.value)) (to_z-of_z w32 c.in-Number.value f) c.leaf.ensures.value; same = c.leaf.ensures.same }
 
 pub factor-returns-in-Name : goal.factor-returns-in-Name
 factor-returns-in-Name t c =
-    let is = seen-taken c.see-seen.result _ c.in_ok-value.ensures c.in-Name.is in
+    let is = seen-taken c.see-seen.result c.operand.ensures c.in_ok-value.ensures c.in-Name.is in
     record { answer = name-read c.see-seen.ensures is c.args.self.now.stands.within c.args.self.now.stands.listed c.leaf-in-Name.ensures.value; same = c.leaf-in-Name.ensures.same }
 
 pub factor-returns-in_err-value : goal.factor-returns-in_err-value
-factor-returns-in_err-value t c = stops (err_from_is_err_and c.from_residual.result c.from_residual.ensures.1) refl (no-factor c.args.self.now.progress c.see-seen.ensures c.in_err-value.ensures)
+factor-returns-in_err-value t c = stops (err_from_is_err_and c.from_residual.result c.from_residual.ensures.1) refl (no-factor c.args.self.now.progress c.see-seen.ensures c.operand.ensures c.in_err-value.ensures)
 
 pub prod-returns-in_err-factor-2 : goal.prod-returns-in_err-factor-2
 prod-returns-in_err-factor-2 t c =
