@@ -26,5 +26,5 @@ pub missed : {h o : Held} {wanted : Mark} {a : Progress} {r : Refusal} → h ≡
 missed {h} {o} {wanted} {a} {r} same = carried (λ names text. Missed wanted names text a r) same
 
 -- a refusal of a part that is passed on
-pub stops : {A : Answer} {o q : Reader} {res : Result (Unit {0}) Refusal} {r : Refusal} → (x : Refusal) × (res ≡ Err x) × (x ≡ r) → A (lines_of o.names.text.now) o.text.now o.progress o.rows.now q.progress q.rows.now (Err r) → Reads A o q res
-stops p h = rw (p.1, p.2) (record { answer = h })
+pub stops : {A : Answer} {o q : Reader} {res : Result (Unit {0}) Refusal} {r : Refusal} → (x : Refusal) × (res ≡ Err x) × (x ≡ r) → held q ≡ held o → A (lines_of o.names.text.now) o.text.now o.progress o.rows.now q.progress q.rows.now (Err r) → Reads A o q res
+stops p same h = rw (p.1, p.2) (record { answer = h; same = same })

@@ -19,7 +19,7 @@ use Rattle.reader.specs.declared.seen.Seen.{Seen}
 use Rattle.reader.specs.declared.seen.Refusal.{Refusal}
 use Rattle.reader.specs.declared.progress.Progress.{Progress}
 use Rattle.reader.specs.Ahead.{ahead, follow, HereIs, refused_at, seen_as}
-use Rattle.reader.specs.Progressing.{read_on, told, Passed, Missed, from}
+use Rattle.reader.specs.Progressing.{read_on, outside, told, Passed, Missed, from}
 use Rattle.reader.specs.Summing.{TookSum, behind_sum}
 use Rattle.reader.specs.Judging.{TookBracket}
 use Rattle.reader.specs.Ordering.{pushed, JoinedInPlace, place_ahead, EndsSheet, EndAhead, Inner, Wanting, TookCommand, TookSheet, TookBlock, Begins}
@@ -210,7 +210,7 @@ finished-inner p (c ∷ cs) (if_body q d ds b) i = refl
 finished-inner p (c ∷ cs) (else_body q d t ds b) i = refl
 finished-inner p (c ∷ cs) (while_body q d ds b) i = refl
 
-pub block_read : {names : List (List ℕ)} {text : List ℕ} {a y x z w : Progress} {old new : List Row} {s e : Seen} → Passed mark.OpenBlock names text a y s → Entered y s x → TookSheet names text x old z new → HereIs names text z.position.at e → command_of e.lexeme ≡ Ok command.CloseBlock → w ≡ read_on z e → TookBlock names text a old (record { position = w.position; count = w.count; depth = w.depth - 1 }) new
+pub block_read : {names : List (List ℕ)} {text : List ℕ} {a y x z w : Progress} {old new : List Row} {s e : Seen} → Passed mark.OpenBlock names text a y s → Entered y s x → TookSheet names text x old z new → HereIs names text z.position.at e → command_of e.lexeme ≡ Ok command.CloseBlock → w ≡ read_on z e → TookBlock names text a old (outside w) new
 block_read {names} {text} {a} {y} {x} {z} {w} {old} {new} {s} {e} p inside took h is on =
     let R : Progress → Type 0 = λ y. Entered y s x in
     let n : Entered (read_on a s) s x = subst R p.on inside in
@@ -257,10 +257,10 @@ pub ended-early : {names : List (List ℕ)} {text : List ℕ} (a : Progress) {s 
 ended-early a {s} h is why [] b w = taking lexeme.End h (end-taken is) a.depth (cmd [] b) ∙ sym (ap (λ l. refused (refusal_of l) s.place) (end-taken is)) ∙ why-refused why
 ended-early a h is why (c ∷ cs) b w = absurd (w (closes _ _ _ (next lexeme.End h (end-taken is)) tt))
 
-pub no-command : {names : List (List ℕ)} {text : List ℕ} (a : Progress) {s : Seen} {r : Refusal} → HereIs names text a.position.at s → Err r ≡ seen_as s (command_of s.lexeme) → (cs : List Command) (b : Block) → from names text a (cmd cs b) ≡ refused r.cause r.place
-no-command a {s} {r} h e cs b =
-    let why = seen-refused s (command_of s.lexeme) e in
-    refusing h a.depth (cmd cs b) r.cause s.place (ap (λ k. commanded k s.place cs b) why.0) ∙ ap (refused r.cause) (sym why.1)
+pub no-command : {names : List (List ℕ)} {text : List ℕ} (a : Progress) {s : Seen} {r : Refusal} → HereIs names text a.position.at s → {w : Result CommandStart ReaderCause} → w ≡ command_of s.lexeme → Err r ≡ seen_as s w → (cs : List Command) (b : Block) → from names text a (cmd cs b) ≡ refused r.cause r.place
+no-command a {s} {r} h {w} same e cs b =
+    let why = seen-refused s w e in
+    refusing h a.depth (cmd cs b) r.cause s.place (ap (λ k. commanded k s.place cs b) (sym same ∙ why.0)) ∙ ap (refused r.cause) (sym why.1)
 
 -- sheets
 

@@ -25,7 +25,7 @@ use Rattle.reader.specs.declared.seen.Seen.{Seen}
 use Rattle.reader.specs.declared.seen.Refusal.{Refusal}
 use Rattle.reader.specs.declared.progress.Progress.{Progress}
 use Rattle.reader.specs.Ahead.{ahead, follow, HereIs, refused_at}
-use Rattle.reader.specs.Progressing.{read_on, told, told_leaf, Passed, Missed, from}
+use Rattle.reader.specs.Progressing.{read_on, outside, told, told_leaf, Passed, Missed, from}
 use Rattle.reader.specs.Summing.{TookSum, behind_sum}
 use Rattle.reader.specs.Judging.{behind_literal, behind_conjunct, behind_condition, linked_on, closing, TookLiteral, TookConjunct, TookCondition, TookComparison, TookBracket, LiteralAnswer, BracketAnswer, ComparisonAnswer}
 use Rattle.reader.proofs.Nexts.{further, next, taking, and-taken, or-taken, not_taken, truth-taken, literal-bracket-taken, comparison-taken, close-taken, open-taken}
@@ -249,7 +249,7 @@ opening-crowded {names} {text} {a} {y} {s} {r} p many u =
 pub closing-missed : {names : List (List ℕ)} {text : List ℕ} {a : Progress} {r : Refusal} → Missed mark.Close names text a r → (c : Condition) (u : Purpose) → behind_condition c u (ahead names text a.position.at) a.depth ≡ refused r.cause r.place
 closing-missed {a = a} m c u = ap (λ ts. behind_condition c u ts a.depth) m.here.tokens ∙ missing m _ _
 
-pub bracket-read : {names : List (List ℕ)} {text : List ℕ} {a y x z w : Progress} {old new : List Row} {s t : Seen} → Passed mark.Open names text a y s → Entered y s x → TookCondition names text x old z new → Passed mark.Close names text z w t → TookBracket names text a old (record { position = w.position; count = w.count; depth = w.depth - 1 }) new
+pub bracket-read : {names : List (List ℕ)} {text : List ℕ} {a y x z w : Progress} {old new : List Row} {s t : Seen} → Passed mark.Open names text a y s → Entered y s x → TookCondition names text x old z new → Passed mark.Close names text z w t → TookBracket names text a old (outside w) new
 bracket-read {names} {text} {a} {y} {x} {z} {w} {old} {new} {s} {t} p inside took q =
     let R : Progress → Type 0 = λ y. Entered y s x in
     let e : Entered (read_on a s) s x = subst R p.on inside in

@@ -92,9 +92,12 @@ becomes-taken {l} e = mark-back l e
 
 -- what was taken at a place, or refused there
 
-pub seen-taken : {A : Type 0} (s : Seen) (x : Result A ReaderCause) {y z : A} → Ok y ≡ seen_as s x → y ≡ z → x ≡ Ok z
-seen-taken s (Ok v) {y} {z} e is = let same : v ≡ z = cc in ap Ok same
-seen-taken s (Err c) e is = absurd (let z : ◌≡◌ {A = ℕ} 0 1 = cc in omega arith)
+taken : {A : Type 0} (s : Seen) (x : Result A ReaderCause) {y z : A} → Ok y ≡ seen_as s x → y ≡ z → x ≡ Ok z
+taken s (Ok v) {y} {z} e is = let same : v ≡ z = cc in ap Ok same
+taken s (Err c) e is = absurd (let z : ◌≡◌ {A = ℕ} 0 1 = cc in omega arith)
+
+pub seen-taken : {A : Type 0} (s : Seen) {x w : Result A ReaderCause} {y z : A} → w ≡ x → Ok y ≡ seen_as s w → y ≡ z → x ≡ Ok z
+seen-taken s {x} {w} same e is = sym same ∙ taken s w e is
 
 pub seen-refused : {A : Type 0} (s : Seen) (x : Result A ReaderCause) {r : Refusal} → Err r ≡ seen_as s x → (x ≡ Err r.cause) × (r.place ≡ s.place)
 seen-refused s (Ok z) e = absurd (let z : ◌≡◌ {A = ℕ} 0 1 = cc in omega arith)

@@ -1,5 +1,5 @@
 -- One turn of each of the functions that read sums.
-use Rattle.std.proofs.Common.{◌≡◌, ℕ, suc, pred, ◌+◌, ◌-◌, ◌<◌, ◌≤◌, List, length, ℤ, pos, Some, None, Ok, Err, Option, sym, refl, ap, ◌∙◌, subst, arith, w32, to_z}
+use Rattle.std.proofs.Common.{◌≡◌, ℕ, suc, pred, ◌+◌, ◌-◌, ◌<◌, ◌≤◌, List, length, ℤ, pos, Some, None, Ok, Err, Option, Result, sym, refl, ap, ◌∙◌, subst, arith, w32, to_z}
 use Rattle.std.proofs.lemmas.Int.{to_z_pos}
 use Rattle.faults.specs.declared.causes.ReaderCause.{ReaderCause}
 use Rattle.faults.specs.declared.causes.ReaderCause.TheVariants.{TooManyOpen}
@@ -11,6 +11,7 @@ use Rattle.tables.specs.Trees.{Sum, number, name, work}
 use Rattle.tables.specs.Rows.{operator_kind, sum_size, sum_rows}
 use Rattle.grammar.specs.declared.lexeme.Lexeme.{Lexeme}
 use Rattle.grammar.specs.declared.lexeme.Lexeme.TheVariants as lexeme
+use Rattle.grammar.specs.declared.choice.Operand.{Operand}
 use Rattle.grammar.specs.declared.choice.Operand.TheVariants as operand
 use Rattle.grammar.specs.declared.choice.Join.{Join}
 use Rattle.grammar.specs.declared.choice.Join.TheVariants as join
@@ -22,7 +23,7 @@ use Rattle.reader.specs.declared.seen.Seen.{Seen}
 use Rattle.reader.specs.declared.seen.Refusal.{Refusal}
 use Rattle.reader.specs.declared.progress.Progress.{Progress}
 use Rattle.reader.specs.Ahead.{ahead, follow, HereIs, seen_as}
-use Rattle.reader.specs.Progressing.{told, told_leaf, read_on, Passed, Missed, Wrote, from}
+use Rattle.reader.specs.Progressing.{told, told_leaf, read_on, outside, Passed, Missed, Wrote, from}
 use Rattle.reader.specs.Summing.{behind_sum, NoFactor, NoProd, SumSoFar, TookSum, TookProd, TookFactor}
 use Rattle.reader.proofs.Bracketing.{missing}
 use Rattle.reader.proofs.Entering.{Entered, Barred}
@@ -66,10 +67,10 @@ module _ {names : List (List ℕ)} {text : List ℕ} where
         wrote = leaf-told a kind.Name (pos x) s refl (further (lexeme.Name x) h l tt) (h.within in-text);
       })
 
-  pub no-factor : (a : Progress) {s : Seen} {r : Refusal} → HereIs names text a.position.at s → Err r ≡ seen_as s (operand_of s.lexeme) → (t m : Left) (k : Use) → from names text a (want t m k) ≡ refused r.cause r.place
-  no-factor a {s} {r} h e t m k =
-      let why = seen-refused s (operand_of s.lexeme) e in
-      refusing h a.depth (want t m k) r.cause s.place (ap (λ o. wanted a.depth s.place o t m k) why.0) ∙ ap (refused r.cause) (sym why.1)
+  pub no-factor : (a : Progress) {s : Seen} {r : Refusal} → HereIs names text a.position.at s → {w : Result Operand ReaderCause} → w ≡ operand_of s.lexeme → Err r ≡ seen_as s w → (t m : Left) (k : Use) → from names text a (want t m k) ≡ refused r.cause r.place
+  no-factor a {s} {r} h {w} same e t m k =
+      let why = seen-refused s w e in
+      refusing h a.depth (want t m k) r.cause s.place (ap (λ o. wanted a.depth s.place o t m k) (sym same ∙ why.0)) ∙ ap (refused r.cause) (sym why.1)
 
   -- a sum in brackets
 
@@ -97,14 +98,16 @@ module _ {names : List (List ℕ)} {text : List ℕ} where
       bracket-entered h e i t f k ∙ took.moves (within t f k)
       ∙ behind_sum_lem m.seen.lexeme m.here refl (within t f k) took.tree z.depth ∙ missing m _ _
 
-  pub bracket-read : {a y z w : Progress} {old new : List Row} {s u : Seen} (f : Progress) → HereIs names text a.position.at s → operand_of s.lexeme ≡ Ok operand.Bracket → Entered a s y → TookSum names text y old z new → Passed mark.Close names text z w u → f.position ≡ w.position → f.count ≡ w.count → f.depth ≡ w.depth - 1 → TookFactor names text a old f new
-  bracket-read {a} {y} {z} {w} {old} {new} {s} {u} f h e i took pass fp fc fd =
+  pub bracket-read : {a y z w : Progress} {old new : List Row} {s u : Seen} (f : Progress) → HereIs names text a.position.at s → operand_of s.lexeme ≡ Ok operand.Bracket → Entered a s y → TookSum names text y old z new → Passed mark.Close names text z w u → f ≡ outside w → TookFactor names text a old f new
+  bracket-read {a} {y} {z} {w} {old} {new} {s} {u} f h e i took pass on =
+      let fc : f.count ≡ w.count = ap (λ (p : Progress). p.count) on in
+      let fd : f.depth ≡ w.depth - 1 = ap (λ (p : Progress). p.depth) on in
       let yd : y.depth ≡ suc a.depth = ap (λ (p : Progress). p.depth) i.on in
       let yc : y.count ≡ a.count = ap (λ (p : Progress). p.count) i.on in
       let ya : y.position.at ≡ s.end = ap (λ (p : Progress). p.position.at) i.on in
       let wd : w.depth ≡ z.depth = ap (λ (p : Progress). p.depth) pass.on in
       let wc : w.count ≡ z.count = ap (λ (p : Progress). p.count) pass.on in
-      let fa : f.position.at ≡ u.end = ap (λ p. p.at) fp ∙ ap (λ (p : Progress). p.position.at) pass.on in
+      let fa : f.position.at ≡ u.end = ap (λ (p : Progress). p.position.at) on ∙ ap (λ (p : Progress). p.position.at) pass.on in
       let zd : z.depth ≡ suc a.depth = took.wrote.depth ∙ yd in
       let d : f.depth ≡ a.depth = omega arith in
       let lt : a.position.at < s.end = further lexeme.Open h (bracket-taken e) tt in

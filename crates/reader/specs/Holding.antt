@@ -1,6 +1,6 @@
 -- What a method answers, in terms of its reader's parts, and what of them stays whatever it does: the names, the text, and
 -- which rows they are that it writes to.
-use Rattle.std.specs.Prelude.{ℕ, List, Result}
+use Rattle.std.specs.Prelude.{◌≡◌, ℕ, List, Result}
 use Rattle.tables.specs.declared.row.Row.{Row}
 use Rattle.names.specs.Lines.{lines_of}
 use Rattle.reader.specs.declared.seen.Refusal.{Refusal}
@@ -21,3 +21,4 @@ Answer = List (List ℕ) → List ℕ → Progress → List Row → Progress →
 
 pub record Reads (A : Answer) (old new : Reader) (r : Result (Unit {0}) Refusal) : Type 0 where
   pub answer : A (lines_of old.names.text.now) old.text.now old.progress old.rows.now new.progress new.rows.now r
+  pub same : held new ≡ held old

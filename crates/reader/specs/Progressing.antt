@@ -22,6 +22,9 @@ opened a s =
     (Ok tt, record { position = record { at = s.end }; count = a.count; depth = suc a.depth })
     (Err (record { cause = TooManyOpen; place = s.place }), a)
 
+abbrev pub outside : Progress → Progress
+outside a = record { position = a.position; count = a.count; depth = a.depth - 1 }
+
 -- a row behind the rows of its parts, which begin at `first`
 abbrev pub told : List Row → Progress → Kind → ℤ → ℕ → ℕ → List Row × Progress
 told rows a k v first q =

@@ -1,5 +1,4 @@
 // Sheets, commands and blocks: they call each other.
-ghost use Rattle.std.specs.Prelude.{◌≡◌};
 ghost use Rattle.names.specs.Lines.{lines_of};
 ghost use Rattle.grammar.specs.declared.choice.CommandStart.TheVariants as command;
 ghost use Rattle.reader.specs.Ordering.{Begins, SheetAnswer, CommandAnswer, BlockAnswer};
@@ -10,18 +9,17 @@ use grammar::{CommandStart, Mark};
 use tables::Kind;
 
 impl Reader<'_> {
-    ghost use Rattle.reader.specs.Holding.{Reads, held};
+    ghost use Rattle.reader.specs.Holding.{Reads};
 
     // One or more commands, up to the end of their block or of the text.
     #[cycle(block_command_if_command_sheet_while_command)]
     pub(crate) fn sheet(&mut self) -> Result<(), Refusal>
-        ensures reads { Reads SheetAnswer self.old self.new result }
-        ensures same { held self.new ≡ held self.old }
+        ensures { Reads SheetAnswer self.old self.new result }
     {
         let first = self.progress.count;
         self.command()?;
         let seen = self.see();
-        match seen.command_start()? {
+        match seen.taken(seen.lexeme.command_start())? {
             CommandStart::CloseBlock | CommandStart::End => Ok(()),
             _ => {
                 self.sheet()?;
@@ -33,11 +31,10 @@ impl Reader<'_> {
 
     #[cycle(block_command_if_command_sheet_while_command)]
     fn command(&mut self) -> Result<(), Refusal>
-        ensures reads { Reads CommandAnswer self.old self.new result }
-        ensures same { held self.new ≡ held self.old }
+        ensures { Reads CommandAnswer self.old self.new result }
     {
         let seen = self.see();
-        match seen.command_start()? {
+        match seen.taken(seen.lexeme.command_start())? {
             CommandStart::Set(point) => self.set_command(seen, point),
             CommandStart::If => self.if_command(seen),
             CommandStart::While => self.while_command(seen),
@@ -48,8 +45,7 @@ impl Reader<'_> {
     // `name = sum ;`, the name just seen.
     fn set_command(&mut self, seen: Seen, point: usize) -> Result<(), Refusal>
         requires { Begins (command.Set point) (lines_of self.old.names.text.now) self.old.text.now self.old.progress seen }
-        ensures reads { Reads CommandAnswer self.old self.new result }
-        ensures same { held self.new ≡ held self.old }
+        ensures { Reads CommandAnswer self.old self.new result }
     {
         let first = self.progress.count;
         self.progress.pass(seen);
@@ -64,8 +60,7 @@ impl Reader<'_> {
     #[cycle(block_command_if_command_sheet_while_command)]
     fn if_command(&mut self, seen: Seen) -> Result<(), Refusal>
         requires { Begins command.If (lines_of self.old.names.text.now) self.old.text.now self.old.progress seen }
-        ensures reads { Reads CommandAnswer self.old self.new result }
-        ensures same { held self.new ≡ held self.old }
+        ensures { Reads CommandAnswer self.old self.new result }
     {
         let first = self.progress.count;
         self.progress.pass(seen);
@@ -86,8 +81,7 @@ impl Reader<'_> {
     #[cycle(block_command_if_command_sheet_while_command)]
     fn while_command(&mut self, seen: Seen) -> Result<(), Refusal>
         requires { Begins command.While (lines_of self.old.names.text.now) self.old.text.now self.old.progress seen }
-        ensures reads { Reads CommandAnswer self.old self.new result }
-        ensures same { held self.new ≡ held self.old }
+        ensures { Reads CommandAnswer self.old self.new result }
     {
         let first = self.progress.count;
         self.progress.pass(seen);
@@ -100,8 +94,7 @@ impl Reader<'_> {
     // `{ sheet }`
     #[cycle(block_command_if_command_sheet_while_command)]
     fn block(&mut self) -> Result<(), Refusal>
-        ensures reads { Reads BlockAnswer self.old self.new result }
-        ensures same { held self.new ≡ held self.old }
+        ensures { Reads BlockAnswer self.old self.new result }
     {
         let seen = self.expect(Mark::OpenBlock)?;
         self.progress.enter(seen)?;
@@ -111,7 +104,7 @@ impl Reader<'_> {
             return Err(end.refusal());
         }
         self.progress.pass(end);
-        self.progress.depth -= 1;
+        self.progress.leave();
         Ok(())
     }
 }

@@ -1,6 +1,5 @@
 // Conditions, conjuncts and literals: they call each other, and group from the right. Each rule of the grammar has its
 // function: one for conditions and conjuncts both would take the part, its sign and what they mean, and be no plainer.
-ghost use Rattle.std.specs.Prelude.{◌≡◌};
 ghost use Rattle.reader.specs.Judging.{ConditionAnswer, ConjunctAnswer, LiteralAnswer, BracketAnswer, ComparisonAnswer};
 
 use crate::reader::Reader;
@@ -9,12 +8,11 @@ use grammar::{Link, LiteralStart, Mark};
 use tables::Kind;
 
 impl Reader<'_> {
-    ghost use Rattle.reader.specs.Holding.{Reads, held};
+    ghost use Rattle.reader.specs.Holding.{Reads};
 
     #[cycle(bracketed_condition_conjunct_literal)]
     pub(crate) fn condition(&mut self) -> Result<(), Refusal>
-        ensures reads { Reads ConditionAnswer self.old self.new result }
-        ensures same { held self.new ≡ held self.old }
+        ensures { Reads ConditionAnswer self.old self.new result }
     {
         let first = self.progress.count;
         self.conjunct()?;
@@ -29,8 +27,7 @@ impl Reader<'_> {
 
     #[cycle(bracketed_condition_conjunct_literal)]
     fn conjunct(&mut self) -> Result<(), Refusal>
-        ensures reads { Reads ConjunctAnswer self.old self.new result }
-        ensures same { held self.new ≡ held self.old }
+        ensures { Reads ConjunctAnswer self.old self.new result }
     {
         let first = self.progress.count;
         self.literal()?;
@@ -45,8 +42,7 @@ impl Reader<'_> {
 
     #[cycle(bracketed_condition_conjunct_literal)]
     fn literal(&mut self) -> Result<(), Refusal>
-        ensures reads { Reads LiteralAnswer self.old self.new result }
-        ensures same { held self.new ≡ held self.old }
+        ensures { Reads LiteralAnswer self.old self.new result }
     {
         let first = self.progress.count;
         let seen = self.see();
@@ -75,21 +71,19 @@ impl Reader<'_> {
     // A condition in brackets: behind `if` and `while`, and as a literal.
     #[cycle(bracketed_condition_conjunct_literal)]
     pub(crate) fn bracketed(&mut self) -> Result<(), Refusal>
-        ensures reads { Reads BracketAnswer self.old self.new result }
-        ensures same { held self.new ≡ held self.old }
+        ensures { Reads BracketAnswer self.old self.new result }
     {
         let seen = self.expect(Mark::Open)?;
         self.progress.enter(seen)?;
         self.condition()?;
         let _ = self.expect(Mark::Close)?;
-        self.progress.depth -= 1;
+        self.progress.leave();
         Ok(())
     }
 
     // Two sums with a comparison between.
     fn comparison(&mut self) -> Result<(), Refusal>
-        ensures reads { Reads ComparisonAnswer self.old self.new result }
-        ensures same { held self.new ≡ held self.old }
+        ensures { Reads ComparisonAnswer self.old self.new result }
     {
         let first = self.progress.count;
         self.sum()?;

@@ -1,6 +1,6 @@
 // How far reading has come: where it stands, how many rows it has told, and how many brackets are open.
-ghost use Rattle.std.specs.Prelude.{◌≡◌};
-ghost use Rattle.reader.specs.Progressing.{read_on, opened};
+ghost use Rattle.std.specs.Prelude.{◌≡◌, ◌<◌};
+ghost use Rattle.reader.specs.Progressing.{read_on, opened, outside};
 
 use crate::seen::{Refusal, Seen};
 use faults::ReaderCause;
@@ -32,7 +32,15 @@ impl Progress {
             return Err(seen.refused(ReaderCause::TooManyOpen));
         }
         self.depth += 1;
-        self.position.at = seen.end;
+        self.pass(seen);
         Ok(())
+    }
+
+    // The bracket opened last is closed.
+    pub(crate) fn leave(&mut self)
+        requires { 0 < self.old.depth }
+        ensures { self.new ≡ outside self.old }
+    {
+        self.depth -= 1;
     }
 }

@@ -1,11 +1,10 @@
 // The next token, as the grammar sees it.
 ghost use Rattle.std.specs.Prelude.{◌≡◌};
-ghost use Rattle.grammar.specs.Choices.{operand_of, command_of};
 ghost use Rattle.reader.specs.Ahead.{refused_for, refused_at, seen_as};
 ghost use Rattle.reader.specs.Reading.{reader_fault};
 
 use faults::{Fault, Layer, ReaderCause};
-use grammar::{CommandStart, Lexeme, Operand};
+use grammar::Lexeme;
 
 #[derive(Clone, Copy)]
 pub(crate) struct Seen {
@@ -31,20 +30,11 @@ impl From<Refusal> for Fault {
 }
 
 impl Seen {
-    // What it is where a factor is wanted.
-    pub(crate) fn operand(self) -> Result<Operand, Refusal>
-        ensures { result ≡ seen_as self (operand_of self.lexeme) }
+    // What it was taken for, or the refusal of it.
+    pub(crate) fn taken<T>(self, choice: Result<T, ReaderCause>) -> Result<T, Refusal>
+        ensures { result ≡ seen_as self choice }
     {
-        self.lexeme.operand().map_err(|cause| self.refused(cause))
-    }
-
-    // What it is where a command is wanted, or the end of its block.
-    pub(crate) fn command_start(self) -> Result<CommandStart, Refusal>
-        ensures { result ≡ seen_as self (command_of self.lexeme) }
-    {
-        self.lexeme
-            .command_start()
-            .map_err(|cause| self.refused(cause))
+        choice.map_err(|cause| self.refused(cause))
     }
 
     // A refusal of it, for this cause.

@@ -1,6 +1,5 @@
 // Sums, prods and factors: they call each other, and each row is written behind its parts'. Each rule of the grammar has
 // its function: one for sums and prods both would take the part, its sign and what they mean, and be no plainer.
-ghost use Rattle.std.specs.Prelude.{◌≡◌};
 ghost use Rattle.reader.specs.Summing.{SumAnswer, ProdAnswer, FactorAnswer};
 
 use crate::reader::Reader;
@@ -9,12 +8,11 @@ use grammar::{Join, Mark, Operand};
 use tables::Kind;
 
 impl Reader<'_> {
-    ghost use Rattle.reader.specs.Holding.{Reads, held};
+    ghost use Rattle.reader.specs.Holding.{Reads};
 
     #[cycle(factor_prod_sum)]
     pub(crate) fn sum(&mut self) -> Result<(), Refusal>
-        ensures reads { Reads SumAnswer self.old self.new result }
-        ensures same { held self.new ≡ held self.old }
+        ensures { Reads SumAnswer self.old self.new result }
     {
         let first = self.progress.count;
         self.prod()?;
@@ -31,8 +29,7 @@ impl Reader<'_> {
 
     #[cycle(factor_prod_sum)]
     fn prod(&mut self) -> Result<(), Refusal>
-        ensures reads { Reads ProdAnswer self.old self.new result }
-        ensures same { held self.new ≡ held self.old }
+        ensures { Reads ProdAnswer self.old self.new result }
     {
         let first = self.progress.count;
         self.factor()?;
@@ -49,11 +46,10 @@ impl Reader<'_> {
 
     #[cycle(factor_prod_sum)]
     fn factor(&mut self) -> Result<(), Refusal>
-        ensures reads { Reads FactorAnswer self.old self.new result }
-        ensures same { held self.new ≡ held self.old }
+        ensures { Reads FactorAnswer self.old self.new result }
     {
         let seen = self.see();
-        match seen.operand()? {
+        match seen.taken(seen.lexeme.operand())? {
             Operand::Number(value) => {
                 self.leaf(Kind::Number, value, seen);
                 Ok(())
@@ -66,7 +62,7 @@ impl Reader<'_> {
                 self.progress.enter(seen)?;
                 self.sum()?;
                 let _ = self.expect(Mark::Close)?;
-                self.progress.depth -= 1;
+                self.progress.leave();
                 Ok(())
             }
         }

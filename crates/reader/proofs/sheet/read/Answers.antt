@@ -1,13 +1,9 @@
-use Rattle.std.proofs.Common.{◌≡◌, ℕ, ◌<◌, ◌≤◌, ◌⊎◌, List, length, replicate, Some, None, Ok, Err, Option, Result, sym, refl, ap, ◌∙◌, subst, inl, inr, ⊎_elim, arith}
+use Rattle.std.proofs.Common.{◌≡◌, ℕ, ◌<◌, ◌≤◌, ◌⊎◌, List, length, replicate, Ok, Err, Result, sym, ap, ◌∙◌, subst, inl, inr, ⊎_elim, arith}
 use Rattle.std.proofs.lemmas.Result.{err_from_is_err_and}
 use Rattle.faults.specs.declared.fault.Fault.{Fault}
 use Rattle.tables.specs.declared.row.Row.{Row}
 use Rattle.names.specs.Lines.{lines_of}
 use Rattle.tables.specs.Rows.{blank}
-use Rattle.names.specs.declared.bad_line.BadLine.{BadLine}
-use Rattle.names.specs.Names.{Accepts}
-use Rattle.names.specs.Complaints.{bad_line_of, or_fault, list_read}
-use Rattle.names.proofs.NameLaws.{listed-lines}
 use Rattle.reader.specs.Reading.{Told, blanks, too_few_slots, reading}
 use Rattle.reader.specs.Laws.{ReadsExactly}
 use Rattle.reader.specs.Wholes.{UnderRead}
@@ -20,20 +16,6 @@ exactly : (list sheet : List ℕ) (old : List Row) (r : Result ℕ Fault) (new :
 exactly list sheet old r new e =
     let P : Told → Type 0 = λ p. ReadsExactly list sheet old p.0 p.1 in
     subst P (sym e) (reads-exactly list sheet old)
-
-same-list : (list l : List ℕ) (o : Option BadLine) → Ok l ≡ or_fault list o → l ≡ list
-same-list list l None e = cc
-same-list list l (Some bad) e = absurd (let z : ◌≡◌ {A = ℕ} 0 1 = cc in omega arith)
-
-few-names : (list l : List ℕ) → Ok l ≡ list_read list → Accepts list (Ok l) → length (lines_of l) ≤ 64
-few-names list l e a =
-    let ns = a.only refl in
-    let same : lines_of l ≡ ns.0 = ap lines_of (same-list list l (bad_line_of list) e) ∙ listed-lines ns.0 list ns.1 in
-    omega (arith, ap length same, ns.1.fine.few)
-
-pub read_under-requires : goal.read_under-requires
-read_under-requires c =
-    few-names c.args.list.now c.in_ok-names.names.text.now c.in_ok-names.ensures.value c.in_ok-names.ensures.accepts
 
 pub returns-in_err-names : goal.returns-in_err-names
 returns-in_err-names c =

@@ -10,18 +10,18 @@ use Rattle.reader.proofs.sheet.read_all.Goals as goal
 pub returns-in_err-sheet : goal.returns-in_err-sheet
 returns-in_err-sheet c =
     let p = err_from_is_err_and c.from_residual.result c.from_residual.ensures.1 in
-    rw (p.1, p.2) (ap (λ ts. run ts 0 start) (all-ahead _ _) ∙ c.in_err-sheet.ensures.reads.answer [] whole tt)
+    rw (p.1, p.2) (ap (λ ts. run ts 0 start) (all-ahead _ _) ∙ c.in_err-sheet.ensures.answer [] whole tt)
 
 pub returns-then-ne : goal.returns-then-ne
 returns-then-ne c =
-    let took = c.in_ok-sheet.ensures.reads.answer in
+    let took = c.in_ok-sheet.ensures.answer in
     ap (λ ts. run ts 0 start) (all-ahead _ _) ∙ took.moves [] whole
     ∙ goes_on (here c.in_ok-sheet.ensures.same c.see-end.ensures) c.sheet.new.self.progress.depth took.tree took.ends (search rules)
     ∙ ap (λ (r : Refusal). refused r.cause r.place) (sym c.refusal.ensures)
 
 pub returns : goal.returns
 returns c =
-    let took = c.in_ok-sheet.ensures.reads.answer in
+    let took = c.in_ok-sheet.ensures.answer in
     record {
       tree = took.tree;
       is =

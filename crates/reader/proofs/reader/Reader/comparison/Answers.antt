@@ -7,20 +7,21 @@ use Rattle.reader.proofs.Carrying.{stops, on, here}
 use Rattle.reader.proofs.Conditioning.{no-comparison, right-refused, two-sums, number-back}
 use Rattle.reader.proofs.reader.Reader.comparison.Goals as goal
 
-pub returns-in_default-clause-reads : goal.returns-in_default-clause-reads
-returns-in_default-clause-reads c =
+pub returns-in_default : goal.returns-in_default
+returns-in_default c =
     let same = c.in_ok-sum.ensures.same in
-    record { answer = no-comparison c.in_ok-sum.ensures.reads.answer (here same c.see-seen.ensures) (sym c.in_default.ensures) c.refusal.ensures }
+    record { answer = no-comparison c.in_ok-sum.ensures.answer (here same c.see-seen.ensures) (sym c.in_default.ensures) c.refusal.ensures; same = same }
 
-pub returns-in_err-sum-2-clause-reads : goal.returns-in_err-sum-2-clause-reads
-returns-in_err-sum-2-clause-reads c =
+pub returns-in_err-sum-2 : goal.returns-in_err-sum-2
+returns-in_err-sum-2 c =
     let same = c.in_ok-sum.ensures.same in
-    stops (err_from_is_err_and c.from_residual-in_err-sum-2.result c.from_residual-in_err-sum-2.ensures.1) (right-refused c.in-Some.comparison c.in_ok-sum.ensures.reads.answer (here same c.see-seen.ensures) (sym c.in-Some.ensures) c.pass.ensures (on c.in_err-sum-2.ensures.reads same))
+    stops (err_from_is_err_and c.from_residual-in_err-sum-2.result c.from_residual-in_err-sum-2.ensures.1) (c.in_err-sum-2.ensures.same ∙ same) (right-refused c.in-Some.comparison c.in_ok-sum.ensures.answer (here same c.see-seen.ensures) (sym c.in-Some.ensures) c.pass.ensures (on c.in_err-sum-2.ensures same))
 
-pub returns-clause-reads : goal.returns-clause-reads
-returns-clause-reads c =
+pub returns : goal.returns
+returns c =
     let same = c.in_ok-sum.ensures.same in
     record {
-      answer = two-sums c.in-Some.comparison (here same c.see-seen.ensures) (sym c.in-Some.ensures) c.in_ok-sum.ensures.reads.answer c.pass.ensures (on c.in_ok-sum-2.ensures.reads same)
+      answer = two-sums c.in-Some.comparison (here same c.see-seen.ensures) (sym c.in-Some.ensures) c.in_ok-sum.ensures.answer c.pass.ensures (on c.in_ok-sum-2.ensures same)
           (c.tell.ensures.value ∙ ap (λ v. told c.sum-2.new.self.rows.now c.sum-2.new.self.progress kind.Compare v c.args.self.now.progress.count c.see-seen.result.place) (number-back c.in-Some.comparison c.from.ensures.value c.from-2.ensures));
+      same = c.tell.ensures.same ∙ c.in_ok-sum-2.ensures.same ∙ same;
     }
