@@ -72,7 +72,8 @@ impl Field<2> for u16 {
     }
 }
 
-// One after another, from a position on.
+// One after another, from a position on. A loop over `chunks_exact_mut` was tried: after it a proof knows how many bytes
+// there are, and not which.
 pub(crate) fn put_each<T: Field<WIDTH>, const WIDTH: usize>(
     bytes: &mut [u8],
     at: usize,

@@ -1,5 +1,6 @@
-// What is wrong with a section, if anything is.
-ghost use Rattle.std.specs.Prelude.{◌≡◌, ◌≤◌, length, None};
+// Whether a section is right; if not, where it is wrong.
+ghost use Rattle.std.specs.Prelude.{◌≡◌, ◌≤◌, length, OnOk};
+ghost use Rattle.std.specs.Result.{result_err};
 ghost use Rattle.station_file.specs.Rules.{RightCode};
 ghost use Rattle.station_file.specs.Writing.{first_wrong, wrong_code, wrong_places};
 
@@ -7,35 +8,38 @@ use crate::operand::is_allowed;
 use crate::{MOST_INSTRUCTIONS, MOST_POINTS};
 use instructions::Instruction;
 
-pub(crate) fn wrong_code(points: usize, instructions: &[Instruction]) -> Option<usize>
-    ensures value { result ≡ wrong_code points instructions.now }
-    ensures few { result ≡ None → (points ≤ 64) × (length instructions.now ≤ 1024) }
-    ensures right { result ≡ None → RightCode points instructions.now }
+pub(crate) fn right_code(points: usize, instructions: &[Instruction]) -> Result<(), usize>
+    ensures value { result_err result ≡ wrong_code points instructions.now }
+    ensures few { OnOk result ((points ≤ 64) × (length instructions.now ≤ 1024)) }
+    ensures right { OnOk result (RightCode points instructions.now) }
 {
     if (1..=MOST_POINTS).contains(&points) && !instructions.is_empty() {
-        first_wrong(points, instructions)
+        right_instructions(points, instructions)
     } else {
-        Some(0)
+        Err(0)
     }
 }
 
-fn first_wrong(points: usize, instructions: &[Instruction]) -> Option<usize>
-    ensures value { result ≡ first_wrong points (length instructions.now) 0 instructions.now }
-    ensures few { result ≡ None → length instructions.now ≤ 1024 }
-    ensures right { result ≡ None → RightCode points instructions.now }
+fn right_instructions(points: usize, instructions: &[Instruction]) -> Result<(), usize>
+    ensures value { result_err result ≡ first_wrong points (length instructions.now) 0 instructions.now }
+    ensures few { OnOk result (length instructions.now ≤ 1024) }
+    ensures right { OnOk result (RightCode points instructions.now) }
 {
     let count = instructions.len();
-    for (i, instruction) in instructions.iter().enumerate() {
-        // the 1,025th is one too many, whatever it is
-        if i >= MOST_INSTRUCTIONS || !is_allowed(*instruction, points, count) {
-            return Some(i);
-        }
-    }
-    None
+    let wrong = instructions
+        .iter()
+        .position(|instruction| !is_allowed(*instruction, points, count));
+    // the 1,025th is one too many, whatever it is
+    let right = wrong.unwrap_or(count).min(MOST_INSTRUCTIONS);
+    if right < count { Err(right) } else { Ok(()) }
 }
 
-pub(crate) fn wrong_places(count: usize, given: usize) -> Option<usize>
-    ensures { result ≡ wrong_places count given }
+pub(crate) fn right_places(count: usize, given: usize) -> Result<(), usize>
+    ensures { result_err result ≡ wrong_places count given }
 {
-    (given != count).then_some(given.min(count))
+    if given == count {
+        Ok(())
+    } else {
+        Err(given.min(count))
+    }
 }

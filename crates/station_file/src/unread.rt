@@ -48,10 +48,10 @@ impl<'a> Unread<'a> {
         ensures moved { OnOk result (MovesOn 1 self.old self.new) }
     {
         let at = self.at;
-        match self.next().map(u8::from_le_bytes) {
-            Some(code) if code <= LAST_CODE => Ok(code),
-            _ => Err(refused(FileCause::NoFile, at)),
-        }
+        self.next()
+            .map(u8::from_le_bytes)
+            .filter(|code| *code <= LAST_CODE)
+            .ok_or(refused(FileCause::NoFile, at))
     }
 
     pub(crate) fn count(&mut self, low: usize, high: usize) -> Result<usize, Fault>
@@ -60,9 +60,9 @@ impl<'a> Unread<'a> {
         ensures inside { IfOk result (λ n. (low ≤ n) × (n ≤ high)) }
     {
         let at = self.at;
-        match self.two().map(usize::from) {
-            Some(count) if (low..=high).contains(&count) => Ok(count),
-            _ => Err(refused(FileCause::NoFile, at)),
-        }
+        self.two()
+            .map(usize::from)
+            .filter(|count| (low..=high).contains(count))
+            .ok_or(refused(FileCause::NoFile, at))
     }
 }

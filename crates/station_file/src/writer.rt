@@ -6,7 +6,7 @@ ghost use Rattle.station_file.specs.Laws.{Opens, Completes};
 use crate::bytes::put;
 use crate::fields::{Field, put_each};
 use crate::refusals::refused;
-use crate::sections::{wrong_code, wrong_places};
+use crate::sections::{right_code, right_places};
 use crate::state::{AfterInstructions, Begin, Written};
 use faults::{Fault, FileCause};
 use instructions::Instruction;
@@ -33,7 +33,7 @@ impl Begin {
         if bytes.len().saturating_sub(self.at) < size {
             return Err((self, refused(FileCause::NoSpace, size)));
         }
-        if let Some(index) = wrong_code(points, instructions) {
+        if let Err(index) = right_code(points, instructions) {
             return Err((self, refused(FileCause::NoFile, index)));
         }
         let at = self.at;
@@ -61,7 +61,7 @@ impl AfterInstructions {
         if bytes.len().saturating_sub(self.at) < length {
             return Err((self, refused(FileCause::NoSpace, length)));
         }
-        if let Some(index) = wrong_places(usize::from(self.count), places.len()) {
+        if let Err(index) = right_places(usize::from(self.count), places.len()) {
             return Err((self, refused(FileCause::NoFile, index)));
         }
         let at = self.at;

@@ -9,8 +9,8 @@ use Rattle.station_file.proofs.state.AfterInstructions.places.Goals as goal
 pub returns-then-saturating_sub-length-clause-value : goal.returns-then-saturating_sub-length-clause-value
 returns-then-saturating_sub-length-clause-value c = grind (arith, nat_tests, length-places c.args.places.now)
 
-pub returns-in-Some-clause-value : goal.returns-in-Some-clause-value
-returns-in-Some-clause-value c = grind (arith, nat_tests, length-places c.args.places.now, c.in-Some.ensures, c.from.ensures)
+pub returns-in-Err-clause-value : goal.returns-in-Err-clause-value
+returns-in-Err-clause-value c = grind (arith, nat_tests, length-places c.args.places.now, c.in-Err.ensures, c.from.ensures)
 
 pub returns : goal.returns
 returns c =

@@ -7,8 +7,8 @@ use Rattle.station_file.proofs.state.Begin.instructions.Goals as goal
 pub returns-then-saturating_sub-size-clause-value : goal.returns-then-saturating_sub-size-clause-value
 returns-then-saturating_sub-size-clause-value c = grind (arith, nat_tests, length-code c.args.points c.args.instructions.now)
 
-pub returns-in-Some-clause-value : goal.returns-in-Some-clause-value
-returns-in-Some-clause-value c = grind (arith, nat_tests, length-code c.args.points c.args.instructions.now, c.in-Some.ensures.value)
+pub returns-in-Err-clause-value : goal.returns-in-Err-clause-value
+returns-in-Err-clause-value c = grind (arith, nat_tests, length-code c.args.points c.args.instructions.now, c.in-Err.ensures.value)
 
 pub returns : goal.returns
 returns c =
@@ -17,6 +17,6 @@ returns c =
     let is = c.args.instructions.now in
     let bs = c.args.bytes.now in
     let none = c.in_default.ensures in
-    let few = none.few refl in
+    let few = none.few in
     let laid = code_put s.at p (length is) is bs c.put.new.bytes c.put-2.new.bytes _ (omega arith) refl (cc (c.put.ensures, c.to_bytes.ensures)) (cc (c.put-2.ensures, c.to_bytes-2.ensures)) c.put_each.ensures in
-    record { value = grind (arith, nat_tests, length-code p is); opens = begins s p is bs _ (sym none.value) few.1 (none.right refl) laid }
+    record { value = grind (arith, nat_tests, length-code p is); opens = begins s p is bs _ (sym none.value) few.1 none.right laid }
