@@ -1,7 +1,7 @@
 -- What each token of a sheet is to the grammar: a word is one of the five that the language keeps for itself, a listed
 -- name, or neither; a run of digits is a number, or too large a one; a sign is itself. The place is the token's
 -- first byte. Names are the lines of the list, so a name's point is its line.
-use Rattle.std.specs.Prelude.{ℕ, ◌+◌, ◌-◌, ◌*◌, true, false, cond, List, [], ◌∷◌, pos, Some, None, codes, Option, nat_le}
+use Rattle.std.specs.Prelude.{◌≡◌, ℕ, ◌+◌, ◌-◌, ◌*◌, true, false, cond, List, [], ◌∷◌, pos, Some, None, codes, Option, nat_le}
 use Rattle.std.specs.Str.{bytes_eq}
 use Rattle.arith.specs.declared.operator.Operator.TheVariants as operator
 use Rattle.scanner.specs.declared.token.Symbol.{Symbol}
@@ -53,6 +53,9 @@ sign_lexeme symbol.Not = Not
 sign_lexeme symbol.And = And
 sign_lexeme symbol.Or = Or
 sign_lexeme (symbol.Compare c) = Compare c
+
+abbrev pub IsSignLexeme : Symbol → Lexeme → Type 0
+IsSignLexeme symbol lexeme = lexeme ≡ sign_lexeme symbol
 
 abbrev pub kind_lexeme : List (List ℕ) → Kind → List ℕ → Lexeme
 kind_lexeme names kind.Word w = word_lexeme names w

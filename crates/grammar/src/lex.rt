@@ -1,12 +1,11 @@
 // From tokens to lexemes, under a name list.
 ghost use Rattle.std.specs.Prelude.{◌≡◌};
-ghost use Rattle.names.specs.Lines.{lines_of};
-ghost use Rattle.grammar.specs.Lexemes.{numeral, number_lexeme, word_lexeme, sign_lexeme, lexeme_of};
+ghost use Rattle.names.specs.Lines.{lines_of, position};
+ghost use Rattle.grammar.specs.Lexemes.{numeral, listed, number_lexeme, word_lexeme, lexeme_of};
 
 use crate::lexeme::Lexeme;
-use arith::Operator;
 use names::NameList;
-use scanner::{Kind, Symbol, Token};
+use scanner::{Kind, Token};
 
 const LARGEST_NUMBER: u64 = 2_147_483_647;
 
@@ -18,7 +17,7 @@ pub fn lexeme_of(names: &NameList, text: &[u8], token: Token) -> Lexeme
     match token.kind {
         Kind::Word => word_lexeme(names, bytes),
         Kind::Number => number_lexeme(bytes),
-        Kind::Sign(symbol) => sign_lexeme(symbol),
+        Kind::Sign(symbol) => Lexeme::from(symbol),
         Kind::End => Lexeme::End,
         Kind::Stray => Lexeme::Stray,
     }
@@ -33,11 +32,14 @@ fn word_lexeme(names: &NameList, word: &[u8]) -> Lexeme
         b"while" => Lexeme::While,
         b"true" => Lexeme::Truth(true),
         b"false" => Lexeme::Truth(false),
-        _ => match names.point(word) {
-            Some(point) => Lexeme::Name(point),
-            None => Lexeme::Unlisted,
-        },
+        _ => name_lexeme(names, word),
     }
+}
+
+fn name_lexeme(names: &NameList, word: &[u8]) -> Lexeme
+    ensures { result ≡ listed (position word.now (lines_of names.now.text.now)) }
+{
+    names.point(word).map_or(Lexeme::Unlisted, Lexeme::Name)
 }
 
 // A number only grows with its digits, so those behind too large a one are left unread.
@@ -52,25 +54,4 @@ fn number_lexeme(digits: &[u8]) -> Lexeme
         }
     }
     Lexeme::Number(value as i32)
-}
-
-fn sign_lexeme(symbol: Symbol) -> Lexeme
-    ensures { result ≡ sign_lexeme symbol }
-{
-    match symbol {
-        Symbol::OpenBlock => Lexeme::OpenBlock,
-        Symbol::CloseBlock => Lexeme::CloseBlock,
-        Symbol::Open => Lexeme::Open,
-        Symbol::Close => Lexeme::Close,
-        Symbol::Semicolon => Lexeme::Semicolon,
-        Symbol::Becomes => Lexeme::Becomes,
-        Symbol::Plus => Lexeme::Additive(Operator::Add),
-        Symbol::Minus => Lexeme::Additive(Operator::Sub),
-        Symbol::Times => Lexeme::Multiplicative(Operator::Mul),
-        Symbol::Over => Lexeme::Multiplicative(Operator::Div),
-        Symbol::Not => Lexeme::Not,
-        Symbol::And => Lexeme::And,
-        Symbol::Or => Lexeme::Or,
-        Symbol::Compare(comparison) => Lexeme::Compare(comparison),
-    }
 }

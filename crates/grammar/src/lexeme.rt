@@ -1,5 +1,9 @@
 // Lexemes: what a token of a sheet is to the grammar, once the name list is known.
+ghost use Rattle.std.specs.Prelude.{◌≡◌};
+ghost use Rattle.grammar.specs.Lexemes.{sign_lexeme, IsSignLexeme};
+
 use arith::{Comparison, Operator};
+use scanner::Symbol;
 
 #[derive(Clone, Copy, PartialEq, Eq, Debug)]
 pub enum Lexeme {
@@ -30,4 +34,29 @@ pub enum Lexeme {
     End,
     // A byte that begins no token.
     Stray,
+}
+
+impl From<Symbol> for Lexeme {
+    ghost from_gives = { IsSignLexeme };
+
+    fn from(symbol: Symbol) -> Lexeme
+        ensures { result ≡ sign_lexeme symbol }
+    {
+        match symbol {
+            Symbol::OpenBlock => Lexeme::OpenBlock,
+            Symbol::CloseBlock => Lexeme::CloseBlock,
+            Symbol::Open => Lexeme::Open,
+            Symbol::Close => Lexeme::Close,
+            Symbol::Semicolon => Lexeme::Semicolon,
+            Symbol::Becomes => Lexeme::Becomes,
+            Symbol::Plus => Lexeme::Additive(Operator::Add),
+            Symbol::Minus => Lexeme::Additive(Operator::Sub),
+            Symbol::Times => Lexeme::Multiplicative(Operator::Mul),
+            Symbol::Over => Lexeme::Multiplicative(Operator::Div),
+            Symbol::Not => Lexeme::Not,
+            Symbol::And => Lexeme::And,
+            Symbol::Or => Lexeme::Or,
+            Symbol::Compare(comparison) => Lexeme::Compare(comparison),
+        }
+    }
 }

@@ -1,7 +1,7 @@
 -- The look ahead. A `(` that begins a literal opens a condition if a clue stands before the partner of that `(`: a
 -- comparison, `!`, `&&`, `||`, `true` or `false`, which no sum has. Only `(` and `)` are counted. Without a partner
 -- the look goes on to the end, or to a byte that begins no token.
-use Rattle.std.specs.Prelude.{ℕ, zero, suc, Bool, true, false, cond, ◌||◌, List, [], ◌∷◌, codes}
+use Rattle.std.specs.Prelude.{◌≡◌, ℕ, zero, suc, Bool, true, false, cond, ◌||◌, List, [], ◌∷◌, codes}
 use Rattle.std.specs.Str.{bytes_eq}
 use Rattle.scanner.specs.Tokens.{tokens_at, spelled}
 use Rattle.scanner.specs.declared.token.Symbol.{Symbol}
@@ -31,6 +31,9 @@ symbol_sight Not = Clue
 symbol_sight And = Clue
 symbol_sight Or = Clue
 symbol_sight (Compare c) = Clue
+
+abbrev pub IsSymbolSight : Symbol → Sight → Type 0
+IsSymbolSight symbol sight = sight ≡ symbol_sight symbol
 
 -- what a token of a kind and with these bytes is to the look
 abbrev pub kind_sight : Kind → List ℕ → Sight

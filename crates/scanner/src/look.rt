@@ -1,7 +1,7 @@
 // The look ahead: whether the bracket just read opens a condition.
 ghost use Rattle.std.specs.Prelude.{◌≡◌};
 ghost use Rattle.scanner.specs.Cursors.{held, look_held, LookLaw};
-ghost use Rattle.scanner.specs.Looks.{symbol_sight, sight_of};
+ghost use Rattle.scanner.specs.Looks.{symbol_sight, IsSymbolSight, sight_of};
 
 use crate::cursor::Cursor;
 use crate::position::Position;
@@ -18,6 +18,21 @@ pub enum Sight {
     // There is nothing to see behind it.
     Stops,
     Passes,
+}
+
+impl From<Symbol> for Sight {
+    ghost from_gives = { IsSymbolSight };
+
+    fn from(symbol: Symbol) -> Sight
+        ensures { result ≡ symbol_sight symbol }
+    {
+        match symbol {
+            Symbol::Open => Sight::Opens,
+            Symbol::Close => Sight::Closes,
+            Symbol::Not | Symbol::And | Symbol::Or | Symbol::Compare(_) => Sight::Clue,
+            _ => Sight::Passes,
+        }
+    }
 }
 
 // Lends the position to a search, and puts the old one back when the search ends, whichever way it does.
@@ -81,18 +96,7 @@ fn sight_of(text: &[u8], token: Token) -> Sight
             _ => Sight::Passes,
         },
         Kind::Number => Sight::Passes,
-        Kind::Sign(symbol) => symbol_sight(symbol),
+        Kind::Sign(symbol) => Sight::from(symbol),
         Kind::End | Kind::Stray => Sight::Stops,
-    }
-}
-
-fn symbol_sight(symbol: Symbol) -> Sight
-    ensures { result ≡ symbol_sight symbol }
-{
-    match symbol {
-        Symbol::Open => Sight::Opens,
-        Symbol::Close => Sight::Closes,
-        Symbol::Not | Symbol::And | Symbol::Or | Symbol::Compare(_) => Sight::Clue,
-        _ => Sight::Passes,
     }
 }
