@@ -36,6 +36,7 @@ fn word_lexeme(names: &NameList, word: &[u8]) -> Lexeme
     }
 }
 
+// By itself, since behind a match on words the proof would go over every way to get here.
 fn name_lexeme(names: &NameList, word: &[u8]) -> Lexeme
     ensures { result ≡ listed (position word.now (lines_of names.now.text.now)) }
 {
