@@ -26,10 +26,11 @@ fn right_instructions(points: usize, instructions: &[Instruction]) -> Result<(),
     ensures right { OnOk result (RightCode points instructions.now) }
 {
     let count = instructions.len();
+    // the 1,025th is one too many, whatever it is, so no later one is looked at
     let wrong = instructions
         .iter()
+        .take(MOST_INSTRUCTIONS)
         .position(|instruction| !is_allowed(*instruction, points, count));
-    // the 1,025th is one too many, whatever it is
     let right = wrong.unwrap_or(count).min(MOST_INSTRUCTIONS);
     if right < count { Err(right) } else { Ok(()) }
 }
