@@ -75,12 +75,9 @@ module _ (text : List ℕ) (start count : ℕ) (coming : List (List ℕ)) (judge
   last : Judged text start count []
   last = subst (Judged text start count) e judged
 
-  all-seen : length (lines_of text) ≡ length last.seen
-  all-seen = ap length (last.whole ∙ append-nil last.seen)
-
-  pub ends-short : start < length text → Some (record { start = start; line = length (lines_of text) + 1; complaint = NoNewline }) ≡ bad_line_of text
+  pub ends-short : start < length text → Some (record { start = start; line = length (lines_of (take start text)) + 1; complaint = NoNewline }) ≡ bad_line_of text
   ends-short h =
-      sym (cut_short (rest_of text) last.seen start (length (lines_of text) + 1) (omega (arith, length-spelled text start count [] last)) (omega (arith, all-seen)))
+      sym (cut_short (rest_of text) last.seen start (length (lines_of (take start text)) + 1) (omega (arith, length-spelled text start count [] last)) (omega (arith, ap length (seen-is text start count [] last))))
       ∙ last.answer
 
   pub ends-whole : length text ≤ start → None ≡ bad_line_of text

@@ -47,8 +47,8 @@ pub(crate) fn judge(text: &[u8]) -> Result<(), BadLine>
     if start < text.len() {
         return Err(BadLine {
             start,
-            // counted anew for this one refusal: a number kept through the loop would be one counted by hand
-            line: Lines::new(text).count() + 1,
+            // the lines before it are counted anew: a number kept through the loop would be one counted by hand
+            line: Lines::new(&text[..start]).count() + 1,
             complaint: Complaint::NoNewline,
         });
     }

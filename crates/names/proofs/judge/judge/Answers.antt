@@ -1,4 +1,4 @@
-use Rattle.std.proofs.Common.{◌≡◌, length, Result, Ok, Err, None, Some, MatchResult, refl, sym, ap, ◌∙◌, subst, rules, tests, arith, IsErrAnd, is_ok, ◌+◌}
+use Rattle.std.proofs.Common.{◌≡◌, length, take, Result, Ok, Err, None, Some, MatchResult, refl, sym, ap, ◌∙◌, subst, rules, tests, arith, IsErrAnd, is_ok, ◌+◌}
 use Rattle.std.proofs.lemmas.Bool.{false≢true}
 use Rattle.names.specs.declared.bad_line.BadLine.{BadLine}
 use Rattle.std.specs.Result.{result_err}
@@ -49,7 +49,7 @@ loop-count-preserved c =
 
 pub returns-then-start-text : goal.returns-then-start-text
 returns-then-start-text c =
-    let lines = lines_of c.args.text.now in
+    let lines = lines_of (take c.loop-count.start c.args.text.now) in
     let n : c.count.result ≡ length lines =
     count_from_yields_List c.new-then-start-text.result _ c.count.ensures.ran
     (YieldsList-from_first (λ x. x.now) (λ s. lines_of s.rest.now) lines (ap lines_of c.new-then-start-text.ensures)) in
