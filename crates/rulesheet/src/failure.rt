@@ -4,26 +4,18 @@ use std::{fmt, io};
 
 #[derive(Drop)]
 pub(crate) enum Failure {
-    // What was refused, in words.
-    Refused(String),
+    // Something was refused, and that has been said by then.
+    Refused,
     // Memory ran out, or what there was to say could not be said.
     Output(io::Error),
 }
 
 impl Failure {
+    // Says what is refused where it is refused: words kept until the end would need memory, and it may have run out.
     pub(crate) fn new<D: fmt::Display + Drop>(rt: &HostRuntime, words: D) -> Failure {
-        match words.to_string(rt.alloc()) {
-            Ok(words) => Failure::Refused(words),
-            Err(e) => Failure::from(e),
-        }
-    }
-}
-
-impl fmt::Display for Failure {
-    fn fmt<W: fmt::Write>(&self, f: &mut fmt::Formatter<W>) -> fmt::Result {
-        match self {
-            Failure::Refused(words) => write!(f, "{words}"),
-            Failure::Output(e) => write!(f, "{e}"),
+        match eprintln!(rt; "rulesheet: {words}") {
+            Ok(()) => Failure::Refused,
+            Err(e) => Failure::Output(e),
         }
     }
 }

@@ -10,16 +10,21 @@ pub(crate) fn file(rt: &HostRuntime, path: &str) -> Result<Vec<u8>, Failure> {
     fs::read(rt, path).map_err(|e| Failure::new(rt, format_args!("cannot read {path}: {e}")))
 }
 
-// The names of a list. Of a refused one it is told which line breaks which rule.
+// The names of a list.
 pub(crate) fn name_list<'a>(
     rt: &HostRuntime,
     path: &str,
     text: &'a [u8],
 ) -> Result<NameList<'a>, Failure> {
-    NameList::read(text).map_err(|fault| match first_bad_line(text) {
+    NameList::read(text).map_err(|fault| refused_list(rt, path, text, fault))
+}
+
+// A refused list, and which line breaks which rule.
+fn refused_list(rt: &HostRuntime, path: &str, text: &[u8], fault: Fault) -> Failure {
+    match first_bad_line(text) {
         Some(bad) => Failure::new(rt, format_args!("{path}: {bad}")),
         None => Failure::new(rt, format_args!("{path}: {fault}")),
-    })
+    }
 }
 
 // A name list and a sheet, by their files, and the rows of the sheet's table.
@@ -41,12 +46,17 @@ impl<'a> Sheet<'a> {
     ) -> Result<Sheet<'a>, Failure> {
         let list = file(rt, list_path)?;
         let text = file(rt, path)?;
-        // here a refused list is explained; reading judges it again, since it trusts no caller
-        let _ = name_list(rt, list_path, list.as_slice())?;
         let mut rows = vec![in rt.alloc(); Row::blank(); MOST_ROWS]?;
-        let count = reader::read(list.as_slice(), text.as_slice(), rows.as_mut_slice()).map_err(
-            |fault| refused(rt, path, text.as_slice(), fault),
-        )?;
+        let read = reader::read(list.as_slice(), text.as_slice(), rows.as_mut_slice());
+        let count = read.map_err(|fault| match fault.layer {
+            Layer::Reader(ReaderCause::BadList) => refused_list(
+                rt,
+                list_path,
+                list.as_slice(),
+                fault,
+            ),
+            _ => refused(rt, path, text.as_slice(), fault),
+        })?;
         rows.truncate(count);
         Ok(Sheet {
             list_path,

@@ -39,12 +39,13 @@ A refusal goes to standard error, and the program ends with status 1.";
 
 const VERSION: &str = "rulesheet 0.1.0";
 
-// What fails is told here alone, so this is not a `Result`: an error that `main` returned would be printed a second time.
+// What fails has been told by the end, so this is not a `Result`: an error that `main` returned would be printed too.
 fn main(rt: HostRuntime) -> ExitCode {
     match run(&rt) {
         Ok(()) => ExitCode::SUCCESS,
-        Err(failure) => {
-            let _ = eprintln!(rt; "rulesheet: {failure}");
+        Err(Failure::Refused) => ExitCode::FAILURE,
+        Err(Failure::Output(e)) => {
+            let _ = eprintln!(rt; "rulesheet: {e}");
             ExitCode::FAILURE
         }
     }
