@@ -8,9 +8,9 @@ use crate::halt::Halt;
 use crate::work::Work;
 
 impl Work<'_> {
-    pub(crate) fn assign(self, end: usize, points: &mut [i32], before: u32) -> Result<u32, Halt>
-        requires { (q : ℕ) × (x : ℕ) × (e : SumTree) × SheetAt self.rows.now end (length points.old) (only (setOf q x e)) }
-        ensures { (q x : ℕ) (e : SumTree) → SheetAt self.entry.rows.now end (length points.old) (only (setOf q x e)) → Ran points.old (only (setOf q x e)) before self.entry.allowance result points.new }
+    pub(crate) fn assign(&self, end: usize, points: &mut [i32], before: u32) -> Result<u32, Halt>
+        requires { (q : ℕ) × (x : ℕ) × (e : SumTree) × SheetAt self.now.rows.now end (length points.old) (only (setOf q x e)) }
+        ensures { (q x : ℕ) (e : SumTree) → SheetAt self.now.rows.now end (length points.old) (only (setOf q x e)) → Ran points.old (only (setOf q x e)) before self.now.allowance result points.new }
     {
         // a match, as in `judge`
         match self.sum(end - 1, points, u64::from(before)) {

@@ -13,14 +13,14 @@ use tables::Kind;
 impl Work<'_> {
     // Whether the condition holds that ends at `end`, and the steps so far.
     pub(crate) fn condition(
-        self,
+        &self,
         end: usize,
         points: &[i32],
         spent: u64,
     ) -> Result<(bool, u64), Stop>
-        requires tree { (t : ConditionTree) × ConditionAt self.rows.now end (length points.now) t }
-        requires small { spent + (slice_index_or self.rows.now (end - 1) blank).size < 2 ^ 48 }
-        ensures { (t : ConditionTree) → ConditionAt self.entry.rows.now end (length points.now) t → out_of result ≡ after spent (condition_work t points.now) }
+        requires tree { (t : ConditionTree) × ConditionAt self.now.rows.now end (length points.now) t }
+        requires small { spent + (slice_index_or self.now.rows.now (end - 1) blank).size < 2 ^ 48 }
+        ensures { (t : ConditionTree) → ConditionAt self.now.rows.now end (length points.now) t → out_of result ≡ after spent (condition_work t points.now) }
     {
         let row = self.rows[end - 1];
         match row.kind {

@@ -9,9 +9,9 @@ use crate::work::Work;
 
 impl Work<'_> {
     // Whether the condition holds that ends at `end`, and the steps made so far, the one after it among them.
-    pub(crate) fn judge(self, end: usize, points: &[i32], before: u32) -> Result<(bool, u32), Halt>
-        requires { (h : ConditionTree) × ConditionAt self.rows.now end (length points.now) h }
-        ensures { (h : ConditionTree) → ConditionAt self.entry.rows.now end (length points.now) h → JudgedAs h points.now before self.entry.allowance result }
+    pub(crate) fn judge(&self, end: usize, points: &[i32], before: u32) -> Result<(bool, u32), Halt>
+        requires { (h : ConditionTree) × ConditionAt self.now.rows.now end (length points.now) h }
+        ensures { (h : ConditionTree) → ConditionAt self.now.rows.now end (length points.now) h → JudgedAs h points.now before self.now.allowance result }
     {
         // a match, since what `map_err` gives is known by no name that a proof can cite
         match self.condition(end, points, u64::from(before)) {

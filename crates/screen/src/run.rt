@@ -12,9 +12,9 @@ use tables::Kind;
 impl Work<'_> {
     // The sheet that ends at `end`.
     #[cycle(sheet)]
-    pub(crate) fn sheet(self, end: usize, points: &mut [i32], before: u32) -> Result<u32, Halt>
-        requires { (t : SheetTree) × SheetAt self.rows.now end (length points.old) t }
-        ensures { (t : SheetTree) → SheetAt self.entry.rows.now end (length points.old) t → Ran points.old t before self.entry.allowance result points.new }
+    pub(crate) fn sheet(&self, end: usize, points: &mut [i32], before: u32) -> Result<u32, Halt>
+        requires { (t : SheetTree) × SheetAt self.now.rows.now end (length points.old) t }
+        ensures { (t : SheetTree) → SheetAt self.now.rows.now end (length points.old) t → Ran points.old t before self.now.allowance result points.new }
     {
         match self.rows[end - 1].kind {
             Kind::Set => self.assign(end, points, before),
@@ -27,9 +27,9 @@ impl Work<'_> {
 
     // A condition and a body.
     #[cycle(sheet)]
-    fn when(self, end: usize, points: &mut [i32], before: u32) -> Result<u32, Halt>
-        requires { (q : ℕ) × (h : ConditionTree) × (b : SheetTree) × SheetAt self.rows.now end (length points.old) (only (whenOf q h b)) }
-        ensures { (q : ℕ) (h : ConditionTree) (b : SheetTree) → SheetAt self.entry.rows.now end (length points.old) (only (whenOf q h b)) → Ran points.old (only (whenOf q h b)) before self.entry.allowance result points.new }
+    fn when(&self, end: usize, points: &mut [i32], before: u32) -> Result<u32, Halt>
+        requires { (q : ℕ) × (h : ConditionTree) × (b : SheetTree) × SheetAt self.now.rows.now end (length points.old) (only (whenOf q h b)) }
+        ensures { (q : ℕ) (h : ConditionTree) (b : SheetTree) → SheetAt self.now.rows.now end (length points.old) (only (whenOf q h b)) → Ran points.old (only (whenOf q h b)) before self.now.allowance result points.new }
     {
         let (holds, made) = self.judge(self.start_of(end - 1), points, before)?;
         if holds {
@@ -41,9 +41,9 @@ impl Work<'_> {
 
     // A condition and two bodies.
     #[cycle(sheet)]
-    fn choose(self, end: usize, points: &mut [i32], before: u32) -> Result<u32, Halt>
-        requires { (q : ℕ) × (h : ConditionTree) × (b : SheetTree) × (d : SheetTree) × SheetAt self.rows.now end (length points.old) (only (chooseOf q h b d)) }
-        ensures { (q : ℕ) (h : ConditionTree) (b : SheetTree) (d : SheetTree) → SheetAt self.entry.rows.now end (length points.old) (only (chooseOf q h b d)) → Ran points.old (only (chooseOf q h b d)) before self.entry.allowance result points.new }
+    fn choose(&self, end: usize, points: &mut [i32], before: u32) -> Result<u32, Halt>
+        requires { (q : ℕ) × (h : ConditionTree) × (b : SheetTree) × (d : SheetTree) × SheetAt self.now.rows.now end (length points.old) (only (chooseOf q h b d)) }
+        ensures { (q : ℕ) (h : ConditionTree) (b : SheetTree) (d : SheetTree) → SheetAt self.now.rows.now end (length points.old) (only (chooseOf q h b d)) → Ran points.old (only (chooseOf q h b d)) before self.now.allowance result points.new }
     {
         let second = self.start_of(end - 1);
         let (holds, made) = self.judge(self.start_of(second), points, before)?;
@@ -57,9 +57,9 @@ impl Work<'_> {
 
     // A command and the sheet after it.
     #[cycle(sheet)]
-    fn joint(self, end: usize, points: &mut [i32], before: u32) -> Result<u32, Halt>
-        requires { (q : ℕ) × (k : CommandTree) × (b : SheetTree) × SheetAt self.rows.now end (length points.old) (jointOf q k b) }
-        ensures { (q : ℕ) (k : CommandTree) (b : SheetTree) → SheetAt self.entry.rows.now end (length points.old) (jointOf q k b) → Ran points.old (jointOf q k b) before self.entry.allowance result points.new }
+    fn joint(&self, end: usize, points: &mut [i32], before: u32) -> Result<u32, Halt>
+        requires { (q : ℕ) × (k : CommandTree) × (b : SheetTree) × SheetAt self.now.rows.now end (length points.old) (jointOf q k b) }
+        ensures { (q : ℕ) (k : CommandTree) (b : SheetTree) → SheetAt self.now.rows.now end (length points.old) (jointOf q k b) → Ran points.old (jointOf q k b) before self.now.allowance result points.new }
     {
         let made = self.sheet(self.start_of(end - 1), points, before)?;
         self.sheet(end - 1, points, made)
@@ -68,9 +68,9 @@ impl Work<'_> {
     // A condition and a body, again and again: a loop and no recursion, so that the stack grows with the sheet's nesting
     // alone.
     #[cycle(sheet)]
-    fn repeat(self, end: usize, points: &mut [i32], before: u32) -> Result<u32, Halt>
-        requires { (q : ℕ) × (h : ConditionTree) × (b : SheetTree) × SheetAt self.rows.now end (length points.old) (only (whileOf q h b)) }
-        ensures { (q : ℕ) (h : ConditionTree) (b : SheetTree) → SheetAt self.entry.rows.now end (length points.old) (only (whileOf q h b)) → Ran points.old (only (whileOf q h b)) before self.entry.allowance result points.new }
+    fn repeat(&self, end: usize, points: &mut [i32], before: u32) -> Result<u32, Halt>
+        requires { (q : ℕ) × (h : ConditionTree) × (b : SheetTree) × SheetAt self.now.rows.now end (length points.old) (only (whileOf q h b)) }
+        ensures { (q : ℕ) (h : ConditionTree) (b : SheetTree) → SheetAt self.now.rows.now end (length points.old) (only (whileOf q h b)) → Ran points.old (only (whileOf q h b)) before self.now.allowance result points.new }
     {
         let test = self.start_of(end - 1);
         let mut made = before;

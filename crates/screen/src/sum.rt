@@ -15,10 +15,10 @@ use tables::Kind;
 
 impl Work<'_> {
     // The value of the sum that ends at `end`, and the steps so far.
-    pub(crate) fn sum(self, end: usize, points: &[i32], spent: u64) -> Result<(i32, u64), Stop>
-        requires tree { (t : SumTree) × SumAt self.rows.now end (length points.now) t }
-        requires small { spent + (slice_index_or self.rows.now (end - 1) blank).size < 2 ^ 48 }
-        ensures { (t : SumTree) → SumAt self.entry.rows.now end (length points.now) t → out_of result ≡ after spent (sum_work t points.now) }
+    pub(crate) fn sum(&self, end: usize, points: &[i32], spent: u64) -> Result<(i32, u64), Stop>
+        requires tree { (t : SumTree) × SumAt self.now.rows.now end (length points.now) t }
+        requires small { spent + (slice_index_or self.now.rows.now (end - 1) blank).size < 2 ^ 48 }
+        ensures { (t : SumTree) → SumAt self.now.rows.now end (length points.now) t → out_of result ≡ after spent (sum_work t points.now) }
     {
         let row = self.rows[end - 1];
         match row.kind {

@@ -16,18 +16,18 @@ pub(crate) struct Work<'a> {
 
 impl Work<'_> {
     // Where the part begins that ends at `end`: the part before it ends there.
-    pub(crate) fn start_of(self, end: usize) -> usize
+    pub(crate) fn start_of(&self, end: usize) -> usize
         requires some { 1 ≤ end }
-        requires within { end ≤ length self.rows.now }
-        requires whole { (slice_index_or self.rows.now (end - 1) blank).size ≤ end }
-        ensures { result ≡ end - (slice_index_or self.entry.rows.now (end - 1) blank).size }
+        requires within { end ≤ length self.now.rows.now }
+        requires whole { (slice_index_or self.now.rows.now (end - 1) blank).size ≤ end }
+        ensures { result ≡ end - (slice_index_or self.now.rows.now (end - 1) blank).size }
     {
         end - self.rows[end - 1].size as usize
     }
 
     // So many steps, where they are within the allowance.
-    pub(crate) fn allow(self, steps: u64) -> Result<u32, Halt>
-        ensures { result ≡ allowed self.entry.allowance steps }
+    pub(crate) fn allow(&self, steps: u64) -> Result<u32, Halt>
+        ensures { result ≡ allowed self.now.allowance steps }
     {
         if steps <= u64::from(self.allowance) {
             Ok(steps as u32)
@@ -37,8 +37,8 @@ impl Work<'_> {
     }
 
     // What a stop comes to: the allowance may be spent before it.
-    pub(crate) fn halt(self, stop: Stop) -> Halt
-        ensures { result ≡ halted self.entry.allowance stop }
+    pub(crate) fn halt(&self, stop: Stop) -> Halt
+        ensures { result ≡ halted self.now.allowance stop }
     {
         if stop.spent > u64::from(self.allowance) {
             Halt::Spent
@@ -47,8 +47,8 @@ impl Work<'_> {
         }
     }
 
-    pub(crate) fn one_more(self, made: u32) -> Result<u32, Halt>
-        ensures { result ≡ one_more (Ok made) self.entry.allowance }
+    pub(crate) fn one_more(&self, made: u32) -> Result<u32, Halt>
+        ensures { result ≡ one_more (Ok made) self.now.allowance }
     {
         self.allow(u64::from(made) + 1)
     }

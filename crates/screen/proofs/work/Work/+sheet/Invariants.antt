@@ -14,19 +14,19 @@ abbrev size_at : List Row → ℕ → ℕ
 size_at rows end = (get_or rows (end - 1) blank).size
 
 abbrev pub decreases-choose : goal.decreases-choose
-decreases-choose l = 2 * size_at l.self.rows.now l.end
+decreases-choose l = 2 * size_at l.self.now.rows.now l.end
 
 abbrev pub decreases-joint : goal.decreases-joint
-decreases-joint l = 2 * size_at l.self.rows.now l.end
+decreases-joint l = 2 * size_at l.self.now.rows.now l.end
 
 abbrev pub decreases-repeat : goal.decreases-repeat
-decreases-repeat l = 2 * size_at l.self.rows.now l.end
+decreases-repeat l = 2 * size_at l.self.now.rows.now l.end
 
 abbrev pub decreases-sheet : goal.decreases-sheet
-decreases-sheet l = 2 * size_at l.self.rows.now l.end + 1
+decreases-sheet l = 2 * size_at l.self.now.rows.now l.end + 1
 
 abbrev pub decreases-when : goal.decreases-when
-decreases-when l = 2 * size_at l.self.rows.now l.end
+decreases-when l = 2 * size_at l.self.now.rows.now l.end
 
 -- however the loop goes on from here, it goes so from where it began
 abbrev pub invariant-repeat-rounds : goal.invariant-repeat-rounds

@@ -19,7 +19,7 @@ bounds-self-end t c = let e = sum-end c.requires.tree.1 in omega (arith, e.0, e.
 pub read-requires : goal.read-requires
 read-requires t c =
     let N = named c.args.points.now c.requires.tree.1 c.in-Name.is in
-    let f : to_z w32 (of_z w32 (get_or c.args.self.rows.now (c.args.end - 1) blank).value) ≡ (get_or c.args.self.rows.now (c.args.end - 1) blank).value = search rules in
+    let f : to_z w32 (of_z w32 (get_or c.args.self.now.rows.now (c.args.end - 1) blank).value) ≡ (get_or c.args.self.now.rows.now (c.args.end - 1) blank).value = search rules in
     record {
       known = subst (λ (z : ℤ). T (non_neg z)) (sym (f ∙ N.value)) tt;
       below = subst (λ (z : ℤ). nat_abs z < length c.args.points.now) (sym (f ∙ N.value)) N.below;
@@ -85,7 +85,7 @@ apply-requires t c =
 
 pub returns-in-Number : goal.returns-in-Number
 returns-in-Number t c t' at =
-    let f : to_z w32 (of_z w32 (get_or c.args.self.rows.now (c.args.end - 1) blank).value) ≡ (get_or c.args.self.rows.now (c.args.end - 1) blank).value = search rules in
+    let f : to_z w32 (of_z w32 (get_or c.args.self.now.rows.now (c.args.end - 1) blank).value) ≡ (get_or c.args.self.now.rows.now (c.args.end - 1) blank).value = search rules in
     ap (λ (x : ℤ). done (c.args.spent + 1) x) f
     ∙ sym (ap (after c.args.spent) (number-work c.args.points.now at c.in-Number.is))
 
@@ -93,8 +93,8 @@ pub returns-in-Name : goal.returns-in-Name
 returns-in-Name t c t' at =
     let p = c.args.points.now in
     let N = named p at c.in-Name.is in
-    let f : to_z w32 (of_z w32 (get_or c.args.self.rows.now (c.args.end - 1) blank).value) ≡ (get_or c.args.self.rows.now (c.args.end - 1) blank).value = search rules in
-    let at-point : nat_abs (to_z w32 (of_z w32 (get_or c.args.self.rows.now (c.args.end - 1) blank).value)) ≡ N.point = ap nat_abs (f ∙ N.value) in
+    let f : to_z w32 (of_z w32 (get_or c.args.self.now.rows.now (c.args.end - 1) blank).value) ≡ (get_or c.args.self.now.rows.now (c.args.end - 1) blank).value = search rules in
+    let at-point : nat_abs (to_z w32 (of_z w32 (get_or c.args.self.now.rows.now (c.args.end - 1) blank).value)) ≡ N.point = ap nat_abs (f ∙ N.value) in
     let g : to_z w32 (of_z w32 c.read.result) ≡ c.read.result = search rules in
     ap (λ (x : ℤ). done (c.args.spent + 1) x) (g ∙ c.read.ensures ∙ ap (λ (j : ℕ). get_or p j (pos 0)) at-point) ∙ sym (ap (after c.args.spent) N.work)
 
@@ -104,7 +104,7 @@ returns-in_ok-right-in_default t c t' at =
     let P = parted at c.in_default.not-Number c.in_default.not-Name in
     let la = sum-at c.start_of.ensures P.sides.left in
     let o : c.operator_of.result ≡ P.op = c.operator_of.ensures ∙ ap (λ (x : Row). operator_at x.kind) P.sides.pair.own ∙ operator-is P.op in
-    let q : (get_or c.args.self.rows.now (c.args.end - 1) blank).place ≡ P.place = ap (λ (x : Row). x.place) P.sides.pair.own in
+    let q : (get_or c.args.self.now.rows.now (c.args.end - 1) blank).place ≡ P.place = ap (λ (x : Row). x.place) P.sides.pair.own in
     let fl : to_z w32 (of_z w32 c.in_ok-left-in_default.left) ≡ c.in_ok-left-in_default.left = search rules in
     let fr : to_z w32 (of_z w32 c.in_ok-right-in_default.right) ≡ c.in_ok-right-in_default.right = search rules in
     rw (P.is, c.apply.ensures, fl, fr, o, q) (two-done c.args.spent c.in_ok-left-in_default.before c.in_ok-right-in_default.both c.in_ok-left-in_default.left c.in_ok-right-in_default.right (sum_work P.l p) (sum_work P.r p) (λ x y. step P.place (worked P.op x y)) (c.in_ok-left-in_default.ensures P.l la) (c.in_ok-right-in_default.ensures P.r P.sides.right))
