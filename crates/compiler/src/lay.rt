@@ -1,7 +1,7 @@
 // Laying the code of a node's tree, known to have room: a fact on the node and the code together, so each function that
 // lays one asks for it. A jump over code is written once that code is laid, since its target is the next address then.
-ghost use Rattle.std.specs.Prelude.{◌≡◌, ◌<◌, length};
-ghost use Rattle.compiler.specs.Parts.{shape_at};
+ghost use Rattle.std.specs.Prelude.{◌≡◌, ◌<◌, ◌≤◌, length};
+ghost use Rattle.compiler.specs.Parts.{IsPart, shape_at};
 ghost use Rattle.compiler.specs.Written.{HasRoomIn, LaysPart, stepped, with_line};
 ghost use Rattle.compiler.specs.declared.shape.Shape.TheVariants as shape;
 
@@ -9,6 +9,7 @@ use crate::node::Node;
 use crate::operation::{instruction_of, point_of};
 use crate::shape::Shape;
 use instructions::Instruction;
+use tables::Row;
 
 // The next address, and the two lists that callers of `compile` lend, an instruction and its place side by side.
 #[derive(Drop)]
@@ -20,10 +21,24 @@ pub(crate) struct Code<'a> {
 
 impl Code<'_> {
     #[cycle(lay)]
+    #[inline(always)]
     pub(crate) fn lay(&mut self, node: Node<'_>)
         requires { HasRoomIn node.rows.now node.end self.old }
         ensures { LaysPart node.entry.rows.now node.entry.end self.old self.new }
     {
+        self.lay_before(node.rows, node.end);
+    }
+
+    // Here the recursion passes a node's two fields by themselves: a struct is passed through memory, which would make
+    // each call's frame several times as large, and a deep tree has many.
+    #[cycle(lay)]
+    fn lay_before(&mut self, rows: &[Row], end: usize)
+        requires room { HasRoomIn rows.now end self.old }
+        requires stands { IsPart rows.now end }
+        requires few { length rows.now ≤ 2048 }
+        ensures { LaysPart rows.now end self.old self.new }
+    {
+        let node = Node { rows, end };
         let row = node.row();
         match Shape::from(row.kind) {
             Shape::Leaf => self.put(instruction_of(row), row.place),

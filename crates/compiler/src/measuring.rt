@@ -1,15 +1,29 @@
 // Measuring a node's tree, from its parts.
-ghost use Rattle.std.specs.Prelude.{◌≡◌};
-ghost use Rattle.compiler.specs.Parts.{Part, Stands};
+ghost use Rattle.std.specs.Prelude.{◌≡◌, ◌≤◌, length};
+ghost use Rattle.compiler.specs.Parts.{IsPart, Part, Stands};
 
 use crate::measure::Measure;
 use crate::node::Node;
 use crate::shape::Shape;
+use tables::Row;
 
-#[tactic(auto, using(crate::proofs::Parting::some_row))]
+#[cycle(measure)]
+#[inline(always)]
 pub(crate) fn measure(node: Node<'_>) -> Measure
     ensures { (v : Part) → Stands node.entry.rows.now node.entry.end v → result ≡ v.measure }
 {
+    measure_before(node.rows, node.end)
+}
+
+// The recursion passes a node's two fields by themselves, as `Code::lay_before` does.
+#[cycle(measure)]
+#[tactic(auto, using(crate::proofs::Parting::some_row))]
+fn measure_before(rows: &[Row], end: usize) -> Measure
+    requires stands { IsPart rows.now end }
+    requires few { length rows.now ≤ 2048 }
+    ensures { (v : Part) → Stands rows.now end v → result ≡ v.measure }
+{
+    let node = Node { rows, end };
     let row = node.row();
     let shape = Shape::from(row.kind);
     match shape {

@@ -11,8 +11,8 @@ use tables::Row;
 // The tree's rows are those just before `end`.
 #[derive(Clone, Copy)]
 pub(crate) struct Node<'a> {
-    rows: &'a [Row],
-    end: usize,
+    pub(crate) rows: &'a [Row],
+    pub(crate) end: usize,
     ghost stands: { IsPart rows.now end },
     ghost few: { length rows.now ≤ 2048 },
 }

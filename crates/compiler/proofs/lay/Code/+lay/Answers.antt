@@ -8,79 +8,79 @@ use Rattle.compiler.proofs.lay.Code.+lay.Goals as goal
 
 -- no parts
 
-pub lay-returns-in-Leaf : goal.lay-returns-in-Leaf
-lay-returns-in-Leaf t c =
-    lays-leaf c.requires (shaped c.requires c.row-row.ensures c.from.ensures c.in-Leaf.is) (lines-own c.requires c.row-row.ensures c.instruction_of.ensures c.put.ensures)
+pub lay_before-returns-in-Leaf : goal.lay_before-returns-in-Leaf
+lay_before-returns-in-Leaf t c =
+    lays-leaf c.requires.room (shaped c.requires.room c.row-row.ensures c.from.ensures c.in-Leaf.is) (lines-own c.requires.room c.row-row.ensures c.instruction_of.ensures c.put.ensures)
 
 -- one part
 
-pub lay-last-requires : goal.lay-last-requires
-lay-last-requires t c =
-    let f = shaped c.requires c.row-row.ensures c.from.ensures c.in-Not.is in
-    last-part _ _ c.args.node.stands (omega (arith, ap part_count f))
+pub lay_before-last-requires : goal.lay_before-last-requires
+lay_before-last-requires t c =
+    let f = shaped c.requires.room c.row-row.ensures c.from.ensures c.in-Not.is in
+    last-part _ _ c.requires.stands (omega (arith, ap part_count f))
 
-pub lay-put-requires-in-Not : goal.lay-put-requires-in-Not
-lay-put-requires-in-Not t c =
-    free (one-space c.requires (shaped c.requires c.row-row.ensures c.from.ensures c.in-Not.is) refl c.last.ensures c.lay.ensures) (omega arith)
+pub lay_before-put-requires-in-Not : goal.lay_before-put-requires-in-Not
+lay_before-put-requires-in-Not t c =
+    free (one-space c.requires.room (shaped c.requires.room c.row-row.ensures c.from.ensures c.in-Not.is) refl c.last.ensures c.lay.ensures) (omega arith)
 
-pub lay-returns-in-Not : goal.lay-returns-in-Not
-lay-returns-in-Not t c =
-    lays-not c.requires (shaped c.requires c.row-row.ensures c.from.ensures c.in-Not.is) c.last.ensures c.lay.ensures (lines-own c.requires c.row-row.ensures c.instruction_of-in-Not.ensures c.put-in-Not.ensures)
+pub lay_before-returns-in-Not : goal.lay_before-returns-in-Not
+lay_before-returns-in-Not t c =
+    lays-not c.requires.room (shaped c.requires.room c.row-row.ensures c.from.ensures c.in-Not.is) c.last.ensures c.lay.ensures (lines-own c.requires.room c.row-row.ensures c.instruction_of-in-Not.ensures c.put-in-Not.ensures)
 
-pub lay-last-requires-in-Set : goal.lay-last-requires-in-Set
-lay-last-requires-in-Set t c =
-    let f = shaped c.requires c.row-row.ensures c.from.ensures c.in-Set.is in
-    last-part _ _ c.args.node.stands (omega (arith, ap part_count f))
+pub lay_before-last-requires-in-Set : goal.lay_before-last-requires-in-Set
+lay_before-last-requires-in-Set t c =
+    let f = shaped c.requires.room c.row-row.ensures c.from.ensures c.in-Set.is in
+    last-part _ _ c.requires.stands (omega (arith, ap part_count f))
 
-pub lay-put-requires-in-Set : goal.lay-put-requires-in-Set
-lay-put-requires-in-Set t c =
-    free (one-space c.requires (shaped c.requires c.row-row.ensures c.from.ensures c.in-Set.is) refl c.last-in-Set.ensures c.lay-in-Set.ensures) (omega arith)
+pub lay_before-put-requires-in-Set : goal.lay_before-put-requires-in-Set
+lay_before-put-requires-in-Set t c =
+    free (one-space c.requires.room (shaped c.requires.room c.row-row.ensures c.from.ensures c.in-Set.is) refl c.last-in-Set.ensures c.lay-in-Set.ensures) (omega arith)
 
-pub lay-put-requires-in-Set-2 : goal.lay-put-requires-in-Set-2
-lay-put-requires-in-Set-2 t c =
-    free (space-after 1 (one-space c.requires (shaped c.requires c.row-row.ensures c.from.ensures c.in-Set.is) refl c.last-in-Set.ensures c.lay-in-Set.ensures) (moved-put _ _ c.put-in-Set.ensures) (omega arith)) (omega arith)
+pub lay_before-put-requires-in-Set-2 : goal.lay_before-put-requires-in-Set-2
+lay_before-put-requires-in-Set-2 t c =
+    free (space-after 1 (one-space c.requires.room (shaped c.requires.room c.row-row.ensures c.from.ensures c.in-Set.is) refl c.last-in-Set.ensures c.lay-in-Set.ensures) (moved-put _ _ c.put-in-Set.ensures) (omega arith)) (omega arith)
 
-pub lay-returns-in-Set : goal.lay-returns-in-Set
-lay-returns-in-Set t c =
-    lays-set c.requires (shaped c.requires c.row-row.ensures c.from.ensures c.in-Set.is) c.last-in-Set.ensures c.lay-in-Set.ensures c.row-row.ensures c.point_of.ensures c.put-in-Set.ensures c.put-in-Set-2.ensures
+pub lay_before-returns-in-Set : goal.lay_before-returns-in-Set
+lay_before-returns-in-Set t c =
+    lays-set c.requires.room (shaped c.requires.room c.row-row.ensures c.from.ensures c.in-Set.is) c.last-in-Set.ensures c.lay-in-Set.ensures c.row-row.ensures c.point_of.ensures c.put-in-Set.ensures c.put-in-Set-2.ensures
 
 -- two parts
 
-pub lay-lay-requires-in-Pair : goal.lay-lay-requires-in-Pair
-lay-lay-requires-in-Pair t c =
-    let f = shaped c.requires c.row-row.ensures c.from.ensures c.in-Pair.is in
-    let some = some_row _ _ c.args.node.stands in
-    (search rules, left-room c.requires f refl c.two.ensures.left)
+pub lay_before-lay-requires-in-Pair : goal.lay_before-lay-requires-in-Pair
+lay_before-lay-requires-in-Pair t c =
+    let f = shaped c.requires.room c.row-row.ensures c.from.ensures c.in-Pair.is in
+    let some = some_row _ _ c.requires.stands in
+    (search rules, left-room c.requires.room f refl c.two.ensures.left)
 
-pub lay-lay-requires-in-Pair-2 : goal.lay-lay-requires-in-Pair-2
-lay-lay-requires-in-Pair-2 t c =
-    let f = shaped c.requires c.row-row.ensures c.from.ensures c.in-Pair.is in
-    let some = some_row _ _ c.args.node.stands in
-    (search rules, right-room c.requires f refl c.two.ensures.left c.lay-in-Pair.ensures moved-none (omega arith) c.two.ensures.right)
+pub lay_before-lay-requires-in-Pair-2 : goal.lay_before-lay-requires-in-Pair-2
+lay_before-lay-requires-in-Pair-2 t c =
+    let f = shaped c.requires.room c.row-row.ensures c.from.ensures c.in-Pair.is in
+    let some = some_row _ _ c.requires.stands in
+    (search rules, right-room c.requires.room f refl c.two.ensures.left c.lay-in-Pair.ensures moved-none (omega arith) c.two.ensures.right)
 
-pub lay-put-requires-in-Pair : goal.lay-put-requires-in-Pair
-lay-put-requires-in-Pair t c =
-    free (right-space c.requires (shaped c.requires c.row-row.ensures c.from.ensures c.in-Pair.is) refl c.two.ensures.left c.lay-in-Pair.ensures moved-none (omega arith) c.two.ensures.right c.lay-in-Pair-2.ensures 1 (omega arith)) (omega arith)
+pub lay_before-put-requires-in-Pair : goal.lay_before-put-requires-in-Pair
+lay_before-put-requires-in-Pair t c =
+    free (right-space c.requires.room (shaped c.requires.room c.row-row.ensures c.from.ensures c.in-Pair.is) refl c.two.ensures.left c.lay-in-Pair.ensures moved-none (omega arith) c.two.ensures.right c.lay-in-Pair-2.ensures 1 (omega arith)) (omega arith)
 
-pub lay-returns-in-Pair : goal.lay-returns-in-Pair
-lay-returns-in-Pair t c =
-    lays-pair c.requires (shaped c.requires c.row-row.ensures c.from.ensures c.in-Pair.is) c.two.ensures.left c.two.ensures.right c.lay-in-Pair.ensures c.lay-in-Pair-2.ensures (lines-own c.requires c.row-row.ensures c.instruction_of-in-Pair.ensures c.put-in-Pair.ensures)
+pub lay_before-returns-in-Pair : goal.lay_before-returns-in-Pair
+lay_before-returns-in-Pair t c =
+    lays-pair c.requires.room (shaped c.requires.room c.row-row.ensures c.from.ensures c.in-Pair.is) c.two.ensures.left c.two.ensures.right c.lay-in-Pair.ensures c.lay-in-Pair-2.ensures (lines-own c.requires.room c.row-row.ensures c.instruction_of-in-Pair.ensures c.put-in-Pair.ensures)
 
-pub lay-lay-requires-in-Joint : goal.lay-lay-requires-in-Joint
-lay-lay-requires-in-Joint t c =
-    let f = shaped c.requires c.row-row.ensures c.from.ensures c.in-Joint.is in
-    let some = some_row _ _ c.args.node.stands in
-    (search rules, left-room c.requires f refl c.two-in-Joint.ensures.left)
+pub lay_before-lay-requires-in-Joint : goal.lay_before-lay-requires-in-Joint
+lay_before-lay-requires-in-Joint t c =
+    let f = shaped c.requires.room c.row-row.ensures c.from.ensures c.in-Joint.is in
+    let some = some_row _ _ c.requires.stands in
+    (search rules, left-room c.requires.room f refl c.two-in-Joint.ensures.left)
 
-pub lay-lay-requires-in-Joint-2 : goal.lay-lay-requires-in-Joint-2
-lay-lay-requires-in-Joint-2 t c =
-    let f = shaped c.requires c.row-row.ensures c.from.ensures c.in-Joint.is in
-    let some = some_row _ _ c.args.node.stands in
-    (search rules, right-room c.requires f refl c.two-in-Joint.ensures.left c.lay-in-Joint.ensures moved-none (omega arith) c.two-in-Joint.ensures.right)
+pub lay_before-lay-requires-in-Joint-2 : goal.lay_before-lay-requires-in-Joint-2
+lay_before-lay-requires-in-Joint-2 t c =
+    let f = shaped c.requires.room c.row-row.ensures c.from.ensures c.in-Joint.is in
+    let some = some_row _ _ c.requires.stands in
+    (search rules, right-room c.requires.room f refl c.two-in-Joint.ensures.left c.lay-in-Joint.ensures moved-none (omega arith) c.two-in-Joint.ensures.right)
 
-pub lay-returns-in-Joint : goal.lay-returns-in-Joint
-lay-returns-in-Joint t c =
-    lays-joint c.requires (shaped c.requires c.row-row.ensures c.from.ensures c.in-Joint.is) c.two-in-Joint.ensures.left c.two-in-Joint.ensures.right c.lay-in-Joint.ensures c.lay-in-Joint-2.ensures
+pub lay_before-returns-in-Joint : goal.lay_before-returns-in-Joint
+lay_before-returns-in-Joint t c =
+    lays-joint c.requires.room (shaped c.requires.room c.row-row.ensures c.from.ensures c.in-Joint.is) c.two-in-Joint.ensures.left c.two-in-Joint.ensures.right c.lay-in-Joint.ensures c.lay-in-Joint-2.ensures
 
 -- a body behind a jump
 
