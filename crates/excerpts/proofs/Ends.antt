@@ -1,9 +1,10 @@
 -- The newlines of a text in the library's words: how many there are, and how far off the first and the last of them is.
-use Rattle.std.proofs.Common.{◌≡◌, ℕ, suc, ◌+◌, Bool, true, false, cond, eqb, not, count_by, List, [], ◌∷◌, ◌++◌, length, refl, sym, ap, ◌∙◌, arith}
+use Rattle.std.proofs.Common.{◌≡◌, ℕ, suc, ◌+◌, Bool, true, false, cond, eqb, not, count_by, List, [], ◌∷◌, ◌++◌, length, take, ◌-◌, ◌≤◌, refl, sym, ap, ◌∙◌, arith}
 use Rattle.std.specs.List.{take_while}
 use Rattle.std.proofs.lemmas.List.Folds.{length-prefix_len}
 use Rattle.std.proofs.lemmas.List.Recursion.{is_count_by, is_position_or_len}
 use Rattle.std.proofs.lemmas.List.{reverse-append, reverse-reverse}
+use Rattle.std.proofs.lemmas.Bool.Decides.{nat_tests}
 use Rattle.excerpts.specs.Excerpts.{newlines, since_from, since, until_newline}
 use mathlib.Core.List.{reverse}
 
@@ -32,3 +33,17 @@ since-is bs =
     (λ b cs. ap since (reverse-append (b ∷ []) cs) ∙ since-more 0 (reverse cs) b ∙ ap (cond (eqb b 10) 0) (one_more (since (reverse cs))))
     (reverse bs)
     ∙ sym (length-prefix_len (λ b. not (eqb b 10)) (reverse bs))
+
+since-within : (n : ℕ) (bs : List ℕ) → since_from n bs ≤ n + length bs
+since-within n [] = omega arith
+since-within n (b ∷ bs) = grind (arith, nat_tests, since-within 0 bs, since-within (suc n) bs)
+
+before-more : (b s : ℕ) (bs : List ℕ) → s ≤ length bs → newlines (take (length bs - s) bs) ≡ newlines bs → newlines (take (suc (length bs) - s) (b ∷ bs)) ≡ newlines (b ∷ bs)
+before-more b s bs within h =
+    let e : suc (length bs) - s ≡ suc (length bs - s) = omega arith in
+    rw e (ap (λ (n : ℕ). cond (eqb b 10) (suc n) n) h)
+
+-- the newlines before the line's start are all that there are
+pub newlines-before : (n : ℕ) (bs : List ℕ) → newlines (take (length bs - since_from n bs) bs) ≡ newlines bs
+newlines-before n [] = grind arith
+newlines-before n (b ∷ bs) = grind (arith, nat_tests, since-within 0 bs, before-more b, newlines-before 0 bs, newlines-before (suc n) bs)

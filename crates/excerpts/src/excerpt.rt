@@ -34,9 +34,15 @@ fn line_of(text: &[u8], place: usize) -> (usize, usize)
     ensures before { result.1 ≤ place }
 {
     let before = &text[..place];
-    let newlines = before.iter().filter(|b| **b == NEWLINE).count();
     let since = before.iter().rev().take_while(|b| **b != NEWLINE).count();
-    (newlines + 1, place - since)
+    // No newline stands from the line's start on, so no byte is read twice. A sum, since to filter and to count what is left
+    // takes longer than one loop where lines are short.
+    let start = place - since;
+    let newlines = before[..start]
+        .iter()
+        .map(|b| usize::from(*b == NEWLINE))
+        .sum::<usize>();
+    (newlines + 1, start)
 }
 
 fn line_end(text: &[u8], start: usize) -> usize
