@@ -14,7 +14,7 @@ pub(crate) fn check(rt: &HostRuntime, words: &[String]) -> Result<(), Failure> {
         [list, sheet] => (list, sheet, false),
         [flag, list, sheet] if flag.as_str() == "--code" => (list, sheet, true),
         [list, sheet, flag] if flag.as_str() == "--code" => (list, sheet, true),
-        _ => return Err(Failure::new(rt, "check takes a name list and a sheet, and --code")),
+        _ => return Err(Failure::tell(rt, "check takes a name list and a sheet, and --code")),
     };
     table(rt, list_path.as_str(), sheet_path.as_str(), with_code)
 }

@@ -11,8 +11,9 @@ pub(crate) enum Failure {
 }
 
 impl Failure {
-    // Says what is refused where it is refused: words kept until the end would need memory, and it may have run out.
-    pub(crate) fn new<D: fmt::Display + Drop>(rt: &HostRuntime, words: D) -> Failure {
+    // Tells on standard error what is refused, and answers that it was. It is told at once, since words that are kept would
+    // need memory, and that may just have run out.
+    pub(crate) fn tell<D: fmt::Display + Drop>(rt: &HostRuntime, words: D) -> Failure {
         match eprintln!(rt; "rulesheet: {words}") {
             Ok(()) => Failure::Refused,
             Err(e) => Failure::Output(e),

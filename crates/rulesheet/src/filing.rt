@@ -29,7 +29,7 @@ pub(crate) fn write(
         code.instructions.as_slice(),
         code.places.as_slice(),
     )
-    .map_err(|fault| Failure::new(rt, format_args!("{path}: {fault}")))?;
+    .map_err(|fault| Failure::tell(rt, format_args!("{path}: {fault}")))?;
     bytes.truncate(length);
     save(rt, path, bytes.as_slice(), code.instructions.len())
 }
@@ -49,7 +49,7 @@ fn laid(
 }
 
 fn save(rt: &HostRuntime, path: &str, bytes: &[u8], count: usize) -> Result<(), Failure> {
-    fs::write(rt, path, bytes).map_err(|e| Failure::new(
+    fs::write(rt, path, bytes).map_err(|e| Failure::tell(
         rt,
         format_args!("cannot write {path}: {e}"),
     ))?;
@@ -67,7 +67,7 @@ pub(crate) fn list(rt: &HostRuntime, path: &str, words: &[String]) -> Result<(),
             let names = input::name_list(rt, list.as_str(), text.as_slice())?;
             show(rt, path, Some(names))
         }
-        _ => Err(Failure::new(
+        _ => Err(Failure::tell(
             rt,
             "list takes a file, and --names with a name list after it",
         )),
@@ -88,16 +88,16 @@ fn show(rt: &HostRuntime, path: &str, names: Option<NameList>) -> Result<(), Fai
     print_code(rt, names, file.instructions(), file.places())
 }
 
-// A refused file, and the byte at the refused position.
+// Tells that a file is refused, and the byte at the refused position.
 fn refused(rt: &HostRuntime, path: &str, bytes: &[u8], fault: Fault) -> Failure {
     let length = bytes.len();
     let at = usize::try_from(fault.figure).unwrap_or(length);
     match bytes.get(at) {
-        Some(byte) => Failure::new(
+        Some(byte) => Failure::tell(
             rt,
             format_args!("{path}: {fault}\nbyte {at} of {length} is {byte}"),
         ),
-        None => Failure::new(
+        None => Failure::tell(
             rt,
             format_args!("{path}: {fault}\nthe file ends at byte {length}"),
         ),

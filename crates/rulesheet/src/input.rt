@@ -7,7 +7,7 @@ use std::fs;
 use tables::{MOST_ROWS, Row};
 
 pub(crate) fn file(rt: &HostRuntime, path: &str) -> Result<Vec<u8>, Failure> {
-    fs::read(rt, path).map_err(|e| Failure::new(rt, format_args!("cannot read {path}: {e}")))
+    fs::read(rt, path).map_err(|e| Failure::tell(rt, format_args!("cannot read {path}: {e}")))
 }
 
 // The names of a list.
@@ -19,11 +19,11 @@ pub(crate) fn name_list<'a>(
     NameList::read(text).map_err(|fault| refused_list(rt, path, text, fault))
 }
 
-// A refused list, and which line breaks which rule.
+// Tells that a list is refused, and which line breaks which rule.
 fn refused_list(rt: &HostRuntime, path: &str, text: &[u8], fault: Fault) -> Failure {
     match first_bad_line(text) {
-        Some(bad) => Failure::new(rt, format_args!("{path}: {bad}")),
-        None => Failure::new(rt, format_args!("{path}: {fault}")),
+        Some(bad) => Failure::tell(rt, format_args!("{path}: {bad}")),
+        None => Failure::tell(rt, format_args!("{path}: {fault}")),
     }
 }
 
@@ -76,13 +76,13 @@ impl<'a> Sheet<'a> {
     }
 }
 
-// A refusal of a sheet, and its line with a caret where the figure is a place in it.
+// Tells a refusal of a sheet, and its line with a caret where the figure is a place in it.
 fn refused(rt: &HostRuntime, path: &str, text: &[u8], fault: Fault) -> Failure {
     if figure_is_a_place(fault.layer) {
         let line = line_at(text, usize::try_from(fault.figure).unwrap_or(text.len()));
-        Failure::new(rt, format_args!("{path}: {fault}\n{line}"))
+        Failure::tell(rt, format_args!("{path}: {fault}\n{line}"))
     } else {
-        Failure::new(rt, format_args!("{path}: {fault}"))
+        Failure::tell(rt, format_args!("{path}: {fault}"))
     }
 }
 

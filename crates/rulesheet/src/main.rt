@@ -60,13 +60,13 @@ fn run(rt: &HostRuntime) -> Result<(), Failure> {
         if task.takes(operands.len()) {
             return on_sheet(rt, task, operands);
         }
-        return Err(Failure::new(
+        return Err(Failure::tell(
             rt,
             format_args!("{word} takes another number of words; see rulesheet --help"),
         ));
     }
     let Some(task) = Task::named(word.as_str()) else {
-        return Err(Failure::new(
+        return Err(Failure::tell(
             rt,
             format_args!("{word} is no task; rulesheet --help lists the tasks"),
         ));
@@ -74,7 +74,7 @@ fn run(rt: &HostRuntime) -> Result<(), Failure> {
     let wanted = task.operands();
     let given = operands.len();
     if given != wanted {
-        return Err(Failure::new(
+        return Err(Failure::tell(
             rt,
             format_args!(
                 "{word} takes {wanted} words after it, and {given} stand there; see rulesheet --help"

@@ -69,7 +69,7 @@ fn settle(
     while let [word, after @ ..] = rest {
         if word.as_str() == "--allowance" {
             let [steps, behind @ ..] = after else {
-                return Err(Failure::new(rt, "a number is to follow --allowance"));
+                return Err(Failure::tell(rt, "a number is to follow --allowance"));
             };
             allowance = allowance_of(rt, steps.as_str())?;
             rest = behind;
@@ -83,7 +83,7 @@ fn settle(
 
 fn allowance_of(rt: &HostRuntime, word: &str) -> Result<u32, Failure> {
     word.parse::<u32>().map_err(|_| {
-        Failure::new(
+        Failure::tell(
             rt,
             format_args!("{word} is no allowance; it is a number from 0 to 4294967295"),
         )
@@ -98,13 +98,13 @@ fn set_point(
     points: &mut [i32],
 ) -> Result<(), Failure> {
     let Some((name, number)) = word.split_once('=') else {
-        return Err(Failure::new(rt, format_args!("{word} is not of the form NAME=NUMBER")));
+        return Err(Failure::tell(rt, format_args!("{word} is not of the form NAME=NUMBER")));
     };
     let Some(point) = names.point(name.as_bytes()) else {
-        return Err(Failure::new(rt, format_args!("{name} is not in the name list")));
+        return Err(Failure::tell(rt, format_args!("{name} is not in the name list")));
     };
     let Ok(value) = number.parse::<i32>() else {
-        return Err(Failure::new(rt, format_args!("{number} is no signed 32-bit number")));
+        return Err(Failure::tell(rt, format_args!("{number} is no signed 32-bit number")));
     };
     if let Some(slot) = points.get_mut(point) {
         *slot = value;

@@ -1,4 +1,5 @@
-// What a run works by: its table's rows, and how many steps it may make.
+// What a run works by: its table's rows, and how many steps it may make. Its methods take it by reference: by value it would
+// go through memory, and each call of a deep run would hold a copy.
 ghost use Rattle.std.specs.Prelude.{◌≡◌, ◌-◌, ◌≤◌, Ok, length, slice_index_or};
 ghost use Rattle.tables.specs.Rows.{blank};
 ghost use Rattle.screen.specs.Allowing.{allowed, halted};
